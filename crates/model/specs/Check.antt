@@ -1,0 +1,130 @@
+-- The check of a routine: Q1 to Q6, then Q7 to Q15 instruction by instruction.
+use mathlib.Core.Bool.{Bool, not}
+use mathlib.Core.List.{List}
+use Prim.Native.Nat.{ℕ, zero, suc, _+_}
+use lib.Dec.{ltb, eqb}
+use lib.ListN.{length, getD}
+use Rattle.model.specs.declared.Verdict.{Verdict}
+use Rattle.model.specs.declared.Reference.{Reference}
+use Rattle.model.specs.declared.Reference.the-variants.{To, Nothing}
+use Rattle.model.specs.Question.{_or_, Question, q7, q8, q9, q10, q11, q12, q13, q14, q15, Refusal, refusal, Outcome, ok, refused, ask, asked, then, firstNo, verdictOf}
+use Rattle.model.specs.Table.{Tables, tablesOf, Routine, routineOf, typeLengthsAsk, codeLengthsAsk, typesAsk, lengthsAsk, annotationsAsk}
+use Rattle.model.specs.Machine.{Plain, constant, copy, add, subtract, multiply, divide, move, load, store, End, halt, jump, ifEqual, ifLess, Instruction, plain, end, malformed, instructionAt, targetsExist}
+use Rattle.model.specs.Reading.{Values, typed, birthplace, rowFits, referenceOf, Reading, entry, putRegister, fresh, movedWord, isOpen, look, loaded, stored, taken, untaken}
+
+-- the value in a register
+abbrev pub valueIn : Reading → ℕ → ℕ
+valueIn st r = getD (st .registers) r 0
+
+unfoldable pub withReference : {A : Type 0} → Reference → Refusal → (ℕ → Outcome A) → Outcome A
+withReference (To t) r k = k t
+withReference Nothing r k = refused r
+
+module _ (𝒯 : Tables) where
+  -- the record type that the value in a register is a reference to
+  abbrev pub referenceIn : Reading → ℕ → Reference
+  referenceIn st b = referenceOf 𝒯 (st .values) (typed (st .values) (valueIn st b))
+
+  -- 01: 'No record open, or base the very value that opened it?'
+  abbrev pub mayTouch : Reading → ℕ → Bool
+  mayTouch st v = not (isOpen st) or eqb (st .base) v
+
+  -- Q10, Q11, Q12 of an access through register b at offset c
+  unfoldable pub onRecord : (Question → Refusal) → Reading → ℕ → ℕ → (ℕ → Outcome Reading) → Outcome Reading
+  onRecord place st b c k =
+      withReference (referenceIn st b) (place q10) λ t.
+      ask (ltb c (𝒯 .size t)) (place q11) λ _.
+      ask (mayTouch st (valueIn st b)) (place q12) λ _.
+      k t
+
+  -- an instruction that does not end a block, whose values are born at g
+  unfoldable pub readPlain : (Question → Refusal) → ℕ → Plain → Reading → Outcome Reading
+  readPlain place g (constant a c) st = ok (fresh st g a 0 0 (suc c))
+  readPlain place g (copy a b) st = ok (putRegister st a (valueIn st b))
+  readPlain place g (add a b c) st = ok (fresh st g a 0 0 0)
+  readPlain place g (subtract a b c) st = ok (fresh st g a 0 0 0)
+  readPlain place g (multiply a b c) st = ok (fresh st g a 0 0 0)
+  readPlain place g (divide a b c) st = ok (fresh st g a 0 0 0)
+  readPlain place g (move a b c) st =
+      let v = valueIn st b in
+      ok (fresh st g a (movedWord 𝒯 (getD (st .values .words) v 0) c) (getD (st .values .frames) (birthplace v) 0) 0)
+  readPlain place g (load a b c) st = onRecord place st b c λ t. ok (loaded (look 𝒯 st g (valueIn st b) t) a c)
+  readPlain place g (store a b c) st = onRecord place st b c λ t. ok (stored 𝒯 (look 𝒯 st g (valueIn st b) t) g (valueIn st b) t c (valueIn st a))
+
+module _ (𝒯 : Tables) (P : Routine) where
+  -- the edge to block b meets its annotation
+  abbrev pub edgeMeets : Reading → Values → ℕ → Bool
+  edgeMeets st vs b = rowFits 𝒯 vs 8 (P .annotation b) (st .registers)
+
+  -- Q14, and Q15 where there is an untaken edge; b is the block after
+  unfoldable pub readEdges : (Question → Refusal) → ℕ → End → Reading → Outcome (Unit {0})
+  readEdges place b halt st = ok tt
+  readEdges place b (jump t) st = asked (edgeMeets st (taken (jump t) st) t) (place q14)
+  readEdges place b (ifEqual x k t) st =
+      ask (edgeMeets st (taken (ifEqual x k t) st) t) (place q14) λ _.
+      asked (edgeMeets st (untaken (ifEqual x k t) st) b) (place q15)
+  readEdges place b (ifLess x y t) st =
+      ask (edgeMeets st (taken (ifLess x y t) st) t) (place q14) λ _.
+      asked (edgeMeets st (untaken (ifLess x y t) st) b) (place q15)
+
+  -- 01: 'For code: block, and code index counted over the whole code'
+  abbrev pub noAt : ℕ → ℕ → Question → Refusal
+  noAt b j q = refusal q b (P .start b + j)
+
+  abbrev pub lastAt : ℕ → ℕ → Bool
+  lastAt b j = eqb (suc j) (P .long b)
+
+  -- Q7 to Q15 of the instruction at offset j of block b, and the reading after it
+  unfoldable pub readInstruction : ℕ → ℕ → Instruction → Reading → Outcome Reading
+  readInstruction b j malformed st = refused (noAt b j q7)
+  readInstruction b j (plain x) st =
+      ask (not (lastAt b j)) (noAt b j q8) λ _.
+      readPlain 𝒯 (noAt b j) (suc j) x st
+  readInstruction b j (end e) st =
+      ask (lastAt b j) (noAt b j q8) λ _.
+      ask (targetsExist (P .count) b e) (noAt b j q9) λ _.
+      ask (not (isOpen st)) (noAt b j q13) λ _.
+      then (readEdges (noAt b j) (suc b) e st) λ _.
+      ok st
+
+  abbrev pub readAt : ℕ → ℕ → Reading → Outcome Reading
+  readAt b j st = readInstruction b j (instructionAt P b j) st
+
+  -- n instructions of block b from offset j on
+  unfoldable pub readOn : ℕ → ℕ → ℕ → Reading → Outcome (Unit {0})
+  readOn b zero j st = ok tt
+  readOn b (suc n) j st = then (readAt b j st) (λ st'. readOn b n (suc j) st')
+
+  unfoldable pub blockAsk : ℕ → Outcome (Unit {0})
+  blockAsk b = readOn b (P .long b) 0 (entry (P .annotation b))
+
+  -- all blocks, in order
+  unfoldable pub judge : Outcome (Unit {0})
+  judge = firstNo (P .count) 0 blockAsk
+
+  -- the reading before the instruction at offset j of block b
+  unfoldable pub readingAt : ℕ → ℕ → Outcome Reading
+  readingAt b zero = ok (entry (P .annotation b))
+  readingAt b (suc j) = then (readingAt b j) (λ st. readAt b j st)
+
+  -- 01: 'The type given to a load or store is the T of the Ref T that Q10 found its base to fit there'
+  unfoldable pub referenceAfter : Outcome Reading → ℕ → Reference
+  referenceAfter (ok st) r = referenceIn 𝒯 st r
+  referenceAfter (refused q) r = Nothing
+
+  unfoldable pub given : ℕ → ℕ → ℕ → Reference
+  given b j r = referenceAfter (readingAt b j) r
+
+-- ---- the public call
+
+unfoldable pub checkAsk : List ℕ → List ℕ → List ℕ → List ℕ → Outcome (Unit {0})
+checkAsk types tags blocks code =
+    then (typeLengthsAsk (length types) (length tags)) λ _.
+    then (codeLengthsAsk (length blocks) (length code)) λ _.
+    then (typesAsk (tablesOf types tags)) λ _.
+    then (lengthsAsk (routineOf blocks code)) λ _.
+    then (annotationsAsk (tablesOf types tags) (routineOf blocks code)) λ _.
+    judge (tablesOf types tags) (routineOf blocks code)
+
+unfoldable pub check : List ℕ → List ℕ → List ℕ → List ℕ → Verdict
+check types tags blocks code = verdictOf (checkAsk types tags blocks code)

@@ -1,0 +1,14 @@
+pub mod Question
+pub mod Word
+pub mod Types
+pub mod Table
+pub mod Meaning
+pub mod Allocation
+pub mod Machine
+pub mod Reading
+pub mod Rules
+pub mod Check
+pub mod MemoryCheck
+pub mod Turns
+pub mod Safety
+pub mod Cases

@@ -1,0 +1,119 @@
+-- Questions, the first no with its place, and the verdict made of it: what every call answers with.
+use mathlib.Core.Bool.{Bool, true, false}
+use Prim.Native.Nat.{ℕ, zero, suc}
+use Rattle.model.specs.declared.Verdict.{Verdict}
+
+-- ---- tests
+
+infixr 35 _and_
+infixr 30 _or_
+unfoldable pub _and_ : Bool → Bool → Bool
+true and b = b
+false and b = false
+
+unfoldable pub _or_ : Bool → Bool → Bool
+true or b = true
+false or b = b
+
+abbrev pub pick {ℓ} : {A : Type ℓ} → Bool → A → A → A
+pick true a b = a
+pick false a b = b
+
+-- each of the n numbers from i on passes
+unfoldable pub every : ℕ → ℕ → (ℕ → Bool) → Bool
+every zero i f = true
+every (suc n) i f = f i and every n (suc i) f
+
+-- ---- 01: 'The questions, in order'
+
+pub data Question : Type 0 where
+  q1 : Question  -- are lengths whole rows within bounds?
+  q2 : Question  -- is each field count 1 to 8?
+  q3 : Question  -- is each record's type word well made, T existing, those past n zero?
+  q4 : Question  -- does each tag name a type?
+  q5 : Question  -- are block lengths 1 to 32 and their sum the code length?
+  q6 : Question  -- are annotations well made, T existing?
+  q7 : Question  -- known opcode, parts in range, divisor not 0?
+  q8 : Question  -- block-ending opcode at the block's end and only there?
+  q9 : Question  -- do the target of 10 to 12 and the block after 11 or 12 exist?
+  q10 : Question  -- does the base of a load or store hold a reference?
+  q11 : Question  -- c below the size?
+  q12 : Question  -- no record open, or base the very value that opened it?
+  q13 : Question  -- no record open?
+  q14 : Question  -- does the taken edge meet its block's annotation?
+  q15 : Question  -- the untaken edge?
+  q16 : Question  -- start block exists?
+  q17 : Question  -- memory length in bounds?
+  q18 : Question  -- address below the memory length?
+  q19 : Question  -- are allocations in order and inside memory?
+  q20 : Question  -- does every field's word meet its meaning?
+  q21 : Question  -- does each register meet that block's annotation?
+  q22 : Question  -- code index below the code length?
+
+abbrev pub numberOf : Question → ℕ
+numberOf q1 = 1
+numberOf q2 = 2
+numberOf q3 = 3
+numberOf q4 = 4
+numberOf q5 = 5
+numberOf q6 = 6
+numberOf q7 = 7
+numberOf q8 = 8
+numberOf q9 = 9
+numberOf q10 = 10
+numberOf q11 = 11
+numberOf q12 = 12
+numberOf q13 = 13
+numberOf q14 = 14
+numberOf q15 = 15
+numberOf q16 = 16
+numberOf q17 = 17
+numberOf q18 = 18
+numberOf q19 = 19
+numberOf q20 = 20
+numberOf q21 = 21
+numberOf q22 = 22
+
+-- 01: 'The first no gives the number and a place of two numbers'
+pub record Refusal : Type 0 where
+  pub question : Question
+  pub first : ℕ
+  pub second : ℕ
+
+abbrev pub refusal : Question → ℕ → ℕ → Refusal
+refusal q a b = record { question = q; first = a; second = b }
+
+-- what follows a row of questions: a result where none had a no, else the first no
+pub data Outcome (A : Type 0) : Type 0 where
+  ok : A → Outcome A
+  refused : Refusal → Outcome A
+
+-- a question; what follows is asked after a yes only
+unfoldable pub ask : {A : Type 0} → Bool → Refusal → (Unit {0} → Outcome A) → Outcome A
+ask true r k = k tt
+ask false r k = refused r
+
+-- questions, and those that follow where none of them had a no
+unfoldable pub then : {A B : Type 0} → Outcome A → (A → Outcome B) → Outcome B
+then (ok a) k = k a
+then (refused r) k = refused r
+
+-- one question alone
+abbrev pub asked : Bool → Refusal → Outcome (Unit {0})
+asked b r = ask b r (λ _. ok tt)
+
+-- the same question of each of the n rows from i on, in order
+unfoldable pub firstNo : ℕ → ℕ → (ℕ → Outcome (Unit {0})) → Outcome (Unit {0})
+firstNo zero i f = ok tt
+firstNo (suc n) i f = then (f i) (λ _. firstNo n (suc i) f)
+
+-- 01: 'A check without a no gives 0 at 0, 0'
+abbrev pub passed : Verdict
+passed = record { number = 0; first = 0; second = 0 }
+
+abbrev pub refusing : Refusal → Verdict
+refusing r = record { number = numberOf (r .question); first = r .first; second = r .second }
+
+unfoldable pub verdictOf : {A : Type 0} → Outcome A → Verdict
+verdictOf (ok a) = passed
+verdictOf (refused r) = refusing r

@@ -1,0 +1,32 @@
+// The shapes that the definitions of document 01 and the code share. The definitions stand in specs/.
+ghost use mathlib.Core.Path.{_≡_};
+ghost use lib.Dec.{eqb};
+
+// The number of the first question with a no, 0 where there is none, and its place.
+pub struct Verdict {
+    pub number: u32,
+    pub first: u32,
+    pub second: u32,
+}
+
+// What a run returns beside the memory that it leaves.
+pub struct RunAnswer {
+    pub number: u32,
+    pub block: u32,
+    pub index: u32,
+    pub finished: u64,
+    pub registers: [u32; 8],
+}
+
+// The record type that a value is a reference to.
+pub enum Reference {
+    To(u32),
+    Nothing,
+}
+
+// Whether a check had no no.
+pub fn passes(v: Verdict) -> bool
+    ensures { λ r. ⌜ r ≡ eqb (v .number) 0 ⌝ }
+{
+    v.number == 0
+}
