@@ -1,0 +1,12 @@
+pub mod Logic
+pub mod Lists
+pub mod Width
+pub mod CasesHold
+pub mod RulesDecide
+pub mod Inversion
+pub mod Tidy
+pub mod Unique
+pub mod Mean
+pub mod Lawful
+pub mod Invariant
+pub mod FitsSound

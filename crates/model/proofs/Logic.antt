@@ -1,0 +1,184 @@
+-- Case analysis, and what a passed question, or a refused one, says.
+use mathlib.Core.Path.{_≡_, refl, sym, ap, subst, _∙_}
+use mathlib.Core.Logic.{_⊎_, inl, inr, _↔_}
+use mathlib.Core.Bool.{Bool, true, false, not, false≢true}
+use Prim.Native.Nat.{ℕ, zero, suc, _+_, _≤_, _<_}
+use native.Mathlib.Omega.{arith}
+use lib.Dec.{ltb, leb, eqb}
+use borrow.Author.Tests.{eqb-true, eqb-false, ltb-true, ltb-false}
+use Rattle.model.specs.Question.{_and_, _or_, pick, every, Question, numberOf, q1, q2, q3, q4, q5, q6, q7, q8, q9, q10, q11, q12, q13, q14, q15, q16, q17, q18, q19, q20, q21, q22, Refusal, Outcome, ok, refused, ask, then, firstNo, verdictOf}
+
+-- ---- tests
+
+pub byTest {ℓ} : {A : Type ℓ} (b : Bool) → (b ≡ true → A) → (b ≡ false → A) → A
+byTest true f g = f refl
+byTest false f g = g refl
+
+pub either {ℓ} : {A B : Type 0} {C : Type ℓ} → A ⊎ B → (A → C) → (B → C) → C
+either (inl a) f g = f a
+either (inr b) f g = g b
+
+-- decided: two numbers are equal or not
+pub byEqual {ℓ} : {A : Type ℓ} (a b : ℕ) → (a ≡ b → A) → ((a ≡ b → ⊥) → A) → A
+byEqual a b f g = byTest (eqb a b) (λ q. f (eqb-true a b q)) (λ q. g (eqb-false a b q))
+
+pub byLess {ℓ} : {A : Type ℓ} (a b : ℕ) → (a < b → A) → (b ≤ a → A) → A
+byLess a b f g = byTest (ltb a b) (λ q. f (ltb-true a b q)) (λ q. g (ltb-false a b q))
+
+pub and-true : (a b : Bool) → a and b ≡ true → (a ≡ true) × (b ≡ true)
+unfolding _and_
+and-true true b e = (refl, e)
+and-true false b e = absurd (false≢true e)
+
+pub true-and : (a b : Bool) → a ≡ true → b ≡ true → a and b ≡ true
+unfolding _and_
+true-and a b p q = rw (p, q)
+
+pub or-true : (a b : Bool) → a or b ≡ true → (a ≡ true) ⊎ (b ≡ true)
+unfolding _or_
+or-true true b e = inl refl
+or-true false b e = inr e
+
+pub true-or : (a b : Bool) → a ≡ true → a or b ≡ true
+unfolding _or_
+true-or a b p = rw p
+
+pub or-of-true : (a b : Bool) → b ≡ true → a or b ≡ true
+unfolding _or_
+or-of-true true b p = refl
+or-of-true false b p = p
+
+pub not-true : (b : Bool) → not b ≡ true → b ≡ false
+not-true true e = absurd (false≢true e)
+not-true false e = refl
+
+pub pick-true {ℓ} : {A : Type ℓ} (b : Bool) (x y : A) → b ≡ true → pick b x y ≡ x
+pick-true b x y e = rw e
+
+pub pick-false {ℓ} : {A : Type ℓ} (b : Bool) (x y : A) → b ≡ false → pick b x y ≡ y
+pick-false b x y e = rw e
+
+-- what holds of both branches holds of the choice
+pub pick-both {ℓ} : {A : Type 0} (C : A → Type ℓ) (b : Bool) (x y : A) → (b ≡ true → C x) → (b ≡ false → C y) → C (pick b x y)
+pick-both C true x y f g = f refl
+pick-both C false x y f g = g refl
+
+pub every-true : (n i : ℕ) (f : ℕ → Bool) → every n i f ≡ true → (j : ℕ) → i ≤ j → j < i + n → f j ≡ true
+unfolding every
+every-true zero i f e j lo hi = absurd (omega arith)
+every-true (suc n) i f e j lo hi =
+    let (p, q) = and-true (f i) (every n (suc i) f) e in
+    byEqual j i (λ s. rw s p) (λ d. every-true n (suc i) f q j (omega arith) (omega arith))
+
+pub true-every : (n i : ℕ) (f : ℕ → Bool) → ((j : ℕ) → i ≤ j → j < i + n → f j ≡ true) → every n i f ≡ true
+unfolding every
+true-every zero i f h = refl
+true-every (suc n) i f h = true-and _ _ (h i (omega arith) (omega arith)) (true-every n (suc i) f (λ j lo hi. h j (omega arith) (omega arith)))
+
+-- ---- questions
+
+pub not-ok : {A : Type 0} {r : Refusal} {x : A} → refused r ≡ ok x → ⊥
+not-ok e = let z : _≡_ {A = ℕ} 0 1 = cc in omega arith
+
+pub ok-same : {A : Type 0} {x y : A} → ok x ≡ ok y → x ≡ y
+ok-same e = cc
+
+pub refused-same : {A : Type 0} {r s : Refusal} → _≡_ {A = Outcome A} (refused r) (refused s) → r ≡ s
+refused-same e = cc
+
+pub ask-ok : {A : Type 0} (b : Bool) (r : Refusal) (k : Unit {0} → Outcome A) {x : A} → ask b r k ≡ ok x → (b ≡ true) × (k tt ≡ ok x)
+unfolding ask
+ask-ok true r k e = (refl, e)
+ask-ok false r k e = absurd (not-ok e)
+
+pub ok-ask : {A : Type 0} (b : Bool) (r : Refusal) (k : Unit {0} → Outcome A) → b ≡ true → ask b r k ≡ k tt
+unfolding ask
+ok-ask b r k e = rw e
+
+pub then-ok : {A B : Type 0} (o : Outcome A) (k : A → Outcome B) {x : B} → then o k ≡ ok x → (a : A) × (o ≡ ok a) × (k a ≡ ok x)
+unfolding then
+then-ok (ok a) k e = (a, refl, e)
+then-ok (refused r) k e = absurd (not-ok e)
+
+pub ok-then : {A B : Type 0} (o : Outcome A) (k : A → Outcome B) (a : A) → o ≡ ok a → then o k ≡ k a
+unfolding then
+ok-then o k a e = rw e
+
+-- a passed row of questions, of the kind that has no result
+pub passed-then : {B : Type 0} (o : Outcome (Unit {0})) (k : Unit {0} → Outcome B) {x : B} → then o k ≡ ok x → (o ≡ ok tt) × (k tt ≡ ok x)
+unfolding then
+passed-then (ok u) k e = (refl, e)
+passed-then (refused r) k e = absurd (not-ok e)
+
+pub firstNo-ok : (n i : ℕ) (f : ℕ → Outcome (Unit {0})) → firstNo n i f ≡ ok tt → (j : ℕ) → i ≤ j → j < i + n → f j ≡ ok tt
+unfolding firstNo
+firstNo-ok zero i f e j lo hi = absurd (omega arith)
+firstNo-ok (suc n) i f e j lo hi =
+    let (p, q) = passed-then (f i) _ e in
+    byEqual j i (λ s. rw s p) (λ d. firstNo-ok n (suc i) f q j (omega arith) (omega arith))
+
+pub ok-firstNo : (n i : ℕ) (f : ℕ → Outcome (Unit {0})) → ((j : ℕ) → i ≤ j → j < i + n → f j ≡ ok tt) → firstNo n i f ≡ ok tt
+unfolding firstNo
+ok-firstNo zero i f h = refl
+ok-firstNo (suc n) i f h = ok-then (f i) _ tt (h i (omega arith) (omega arith)) ∙ ok-firstNo n (suc i) f (λ j lo hi. h j (omega arith) (omega arith))
+
+-- the first row with a no: those before it have none
+pub record FirstNo (n i : ℕ) (f : ℕ → Outcome (Unit {0})) (r : Refusal) : Type 0 where
+  pub row : ℕ
+  pub low : i ≤ row
+  pub high : row < i + n
+  pub here : f row ≡ refused r
+  pub before : (j : ℕ) → i ≤ j → j < row → f j ≡ ok tt
+
+pub firstNo-refused : (n i : ℕ) (f : ℕ → Outcome (Unit {0})) (r : Refusal) → firstNo n i f ≡ refused r → FirstNo n i f r
+unfolding firstNo then
+firstNo-refused zero i f r e = absurd (not-ok (sym e))
+firstNo-refused (suc n) i f r e = go (f i) refl (λ k. firstNo-refused n (suc i) f r k) e
+  where
+    go : (o : Outcome (Unit {0})) → f i ≡ o → (firstNo n (suc i) f ≡ refused r → FirstNo n (suc i) f r) → then o (λ _. firstNo n (suc i) f) ≡ refused r → FirstNo (suc n) i f r
+    go (ok u) h rest e =
+        let F = rest e in
+        record {
+          row = F .row;
+          low = omega (arith, F .low);
+          high = omega (arith, F .high);
+          here = F .here;
+          before = λ j lo hi. byEqual j i (λ s. rw s h) (λ d. F .before j (omega arith) hi);
+        }
+    go (refused s) h rest e = record { row = i; low = omega arith; high = omega arith; here = h ∙ e; before = λ j lo hi. absurd (omega arith) }
+
+-- ---- verdicts
+
+number-positive : (q : Question) → 1 ≤ numberOf q
+number-positive q1 = omega arith
+number-positive q2 = omega arith
+number-positive q3 = omega arith
+number-positive q4 = omega arith
+number-positive q5 = omega arith
+number-positive q6 = omega arith
+number-positive q7 = omega arith
+number-positive q8 = omega arith
+number-positive q9 = omega arith
+number-positive q10 = omega arith
+number-positive q11 = omega arith
+number-positive q12 = omega arith
+number-positive q13 = omega arith
+number-positive q14 = omega arith
+number-positive q15 = omega arith
+number-positive q16 = omega arith
+number-positive q17 = omega arith
+number-positive q18 = omega arith
+number-positive q19 = omega arith
+number-positive q20 = omega arith
+number-positive q21 = omega arith
+number-positive q22 = omega arith
+
+-- the number 0 means that no question had a no
+pub verdict-ok : (o : Outcome (Unit {0})) → verdictOf o .number ≡ 0 → o ≡ ok tt
+unfolding verdictOf
+verdict-ok (ok u) e = refl
+verdict-ok (refused r) e = absurd (omega (arith, number-positive (r .question)))
+
+pub ok-verdict : (o : Outcome (Unit {0})) → o ≡ ok tt → verdictOf o .number ≡ 0
+unfolding verdictOf
+ok-verdict o e = rw e

@@ -1,0 +1,137 @@
+-- Inside a block a value has at most one known constant, and the type that Q10 gives is the only one that its base fits.
+use mathlib.Core.Path.{_≡_, refl, sym, ap, _∙_}
+use mathlib.Core.Logic.{_⊎_, inl, inr, _↔_}
+use mathlib.Core.Bool.{Bool, true, false, false≢true}
+use mathlib.Core.List.{List, [], _∷_}
+use Prim.Native.Nat.{ℕ, zero, suc, _≤_, _<_}
+use native.Mathlib.Omega.{arith}
+use lib.Dec.{ltb, eqb}
+use lib.ListN.{length, getD}
+use borrow.Author.Tests.{eqb-true, ltb-true, lt-ltb}
+use Rattle.model.specs.declared.Reference.{Reference}
+use Rattle.model.specs.declared.Reference.the-variants.{To, Nothing}
+use Rattle.model.specs.Question.{pick}
+use Rattle.model.specs.Types.{Dep, name, con, Ty, any, ref, maybe, tagged, present, same, span, typeOf, rename}
+use Rattle.model.specs.Table.{Tables}
+use Rattle.model.specs.Reading.{Values, birthplace, typed, constantsOf, firstTag, referenceOf}
+use Rattle.model.specs.Rules.{Constant, constant-itself, by-opcode-1, by-type-same, by-taken-11, TagOf, KnownTag, Fits, ref-ref, ref-in, ref-present}
+use Rattle.model.proofs.Logic.{byTest, either}
+use Rattle.model.proofs.Lists.{Member, first, later}
+use Rattle.model.proofs.RulesDecide.{constant-known, known-constant}
+use Rattle.model.proofs.Tidy.{TidyValues}
+
+pub to-same : {t u : ℕ} → To t ≡ To u → t ≡ u
+to-same e = cc
+
+pub not-to : {t : ℕ} → Nothing ≡ To t → ⊥
+not-to e = let z : _≡_ {A = ℕ} 0 1 = cc in omega arith
+
+any-typed : (vs : Values) (v : ℕ) → getD (vs .words) v 0 ≡ 0 → typed vs v ≡ any
+unfolding typed typeOf rename
+any-typed vs v e = rw e refl
+
+any-not-same : (d : Dep) → any ≡ same d → ⊥
+any-not-same d e = let z : _≡_ {A = ℕ} 0 1 = cc in omega arith
+
+ref-not-span : {t k u : ℕ} {d e : Dep} → ref t ≡ span k u d e → ⊥
+ref-not-span q = let z : _≡_ {A = ℕ} 0 1 = cc in omega arith
+
+ref-not-present : {t : ℕ} {d : Dep} → ref t ≡ present d → ⊥
+ref-not-present q = let z : _≡_ {A = ℕ} 0 1 = cc in omega arith
+
+span-not-present : {k u : ℕ} {d e x : Dep} → span k u d e ≡ present x → ⊥
+span-not-present q = let z : _≡_ {A = ℕ} 0 1 = cc in omega arith
+
+ref-same : {t u : ℕ} → ref t ≡ ref u → t ≡ u
+ref-same q = cc
+
+span-same : {j k t u : ℕ} {d e x y : Dep} → span j t d e ≡ span k u x y → t ≡ u
+span-same q = cc
+
+present-same : {d e : Dep} → present d ≡ present e → d ≡ e
+present-same q = cc
+
+same-constant : {c d : ℕ} → same (con c) ≡ same (con d) → c ≡ d
+same-constant q = cc
+
+module _ (𝒯 : Tables) (vs : Values) where
+  -- ---- one constant
+
+  module _ (g : ℕ) (T : TidyValues vs g) where
+    type-or-opcode : (v c d : ℕ) → getD (vs .constants) (birthplace v) 0 ≡ suc c → typed vs v ≡ same (con d) → ⊥
+    type-or-opcode v c d e f = either (T .single v) (λ z. omega arith) (λ z. any-not-same (con d) (sym (any-typed vs v z) ∙ f))
+
+    pub one-constant : (x : Dep) (c d : ℕ) → Constant 𝒯 vs x c → Constant 𝒯 vs x d → c ≡ d
+    one-constant (con x) c d constant-itself constant-itself = refl
+    one-constant (name v) c d (by-opcode-1 e) (by-opcode-1 f) = omega arith
+    one-constant (name v) c d (by-opcode-1 e) (by-type-same f) = absurd (type-or-opcode v c d e f)
+    one-constant (name v) c d (by-opcode-1 e) (by-taken-11 h f) = absurd (let z = T .untested in omega arith)
+    one-constant (name v) c d (by-type-same e) (by-opcode-1 f) = absurd (type-or-opcode v d c f e)
+    one-constant (name v) c d (by-type-same e) (by-type-same f) = same-constant (sym e ∙ f)
+    one-constant (name v) c d (by-type-same e) (by-taken-11 h f) = absurd (let z = T .untested in omega arith)
+    one-constant (name v) c d (by-taken-11 h e) (by-opcode-1 f) = absurd (let z = T .untested in omega arith)
+    one-constant (name v) c d (by-taken-11 h e) (by-type-same f) = absurd (let z = T .untested in omega arith)
+    one-constant (name v) c d (by-taken-11 h e) (by-taken-11 k f) = absurd (let z = T .untested in omega arith)
+
+    one-tag : (d : Dep) (t u : ℕ) → KnownTag 𝒯 vs t d → KnownTag 𝒯 vs u d → t ≡ u
+    one-tag d t u K L =
+        sym (K .stands .names) ∙ ap (λ (k : ℕ). getD (𝒯 .tags) k 0) (one-constant d (K .tag) (L .tag) (K .known) (L .known)) ∙ L .stands .names
+
+    -- ---- one record type
+
+    pub one-reference : (v t u : ℕ) → Fits 𝒯 vs v (ref t) → Fits 𝒯 vs v (ref u) → t ≡ u
+    one-reference v t u (ref-ref e) (ref-ref f) = ref-same (sym e ∙ f)
+    one-reference v t u (ref-ref e) (ref-in f) = absurd (ref-not-span (sym e ∙ f))
+    one-reference v t u (ref-ref e) (ref-present f L) = absurd (ref-not-present (sym e ∙ f))
+    one-reference v t u (ref-in e) (ref-ref f) = absurd (ref-not-span (sym f ∙ e))
+    one-reference v t u (ref-in e) (ref-in f) = span-same (sym e ∙ f)
+    one-reference v t u (ref-in e) (ref-present f L) = absurd (span-not-present (sym e ∙ f))
+    one-reference v t u (ref-present e K) (ref-ref f) = absurd (ref-not-present (sym f ∙ e))
+    one-reference v t u (ref-present e K) (ref-in f) = absurd (span-not-present (sym f ∙ e))
+    one-reference v t u (ref-present {d = d} e K) (ref-present {d = x} f L) =
+        one-tag d t u K (let p : d ≡ x = present-same (sym e ∙ f) in rw p L)
+
+  -- ---- the answer to Q10 is the type that the base fits
+
+  first-tag : (d : Dep) (ks : List ℕ) (t : ℕ) → ((k : ℕ) → Member k ks → Constant 𝒯 vs d k) → firstTag 𝒯 ks ≡ To t → KnownTag 𝒯 vs t d
+  unfolding firstTag
+  first-tag d [] t h e = absurd (not-to e)
+  first-tag d (k ∷ ks) t h e =
+      byTest (ltb k (length (𝒯 .tags)))
+      (λ q. record { tag = k; known = h k first; stands = record { listed = ltb-true k _ q; names = to-same (rw q at e) } })
+      (λ q. first-tag d ks t (λ x m. h x (later m)) (rw q at e))
+
+  reference-typed : (v : ℕ) (ty : Ty) (t : ℕ) → typed vs v ≡ ty → referenceOf 𝒯 vs ty ≡ To t → Fits 𝒯 vs v (ref t)
+  unfolding referenceOf
+  reference-typed v any t h e = absurd (not-to e)
+  reference-typed v (ref u) t h e = ref-ref (h ∙ ap ref (to-same e))
+  reference-typed v (maybe u) t h e = absurd (not-to e)
+  reference-typed v (tagged d) t h e = absurd (not-to e)
+  reference-typed v (present d) t h e = ref-present h (first-tag d (constantsOf vs d) t (λ k m. constant-known 𝒯 vs d k m) e)
+  reference-typed v (same d) t h e = absurd (not-to e)
+  reference-typed v (span k u d f) t h e =
+      byTest (eqb k 2)
+      (λ q. ref-in {d = d} {e = f} (h ∙ ap (λ (x : ℕ). span x u d f) (eqb-true k 2 q) ∙ ap (λ (x : ℕ). span 2 x d f) (to-same (rw q at e))))
+      (λ q. absurd (not-to (rw q at e)))
+
+  pub reference-fits : (v t : ℕ) → referenceOf 𝒯 vs (typed vs v) ≡ To t → Fits 𝒯 vs v (ref t)
+  reference-fits v t e = reference-typed v (typed vs v) t refl e
+
+  -- a list of which k is the only member, and k a tag
+  only-tag : (k : ℕ) (ks : List ℕ) → k < length (𝒯 .tags) → Member k ks → ((x : ℕ) → Member x ks → x ≡ k) → firstTag 𝒯 ks ≡ To (getD (𝒯 .tags) k 0)
+  unfolding firstTag
+  only-tag k (x ∷ ks) l m h = let e : x ≡ k = h x first in rw (e, lt-ltb k (length (𝒯 .tags)) l)
+
+  module _ (g : ℕ) (T : TidyValues vs g) where
+    fits-reference : (v t : ℕ) → Fits 𝒯 vs v (ref t) → referenceOf 𝒯 vs (typed vs v) ≡ To t
+    unfolding referenceOf
+    fits-reference v t (ref-ref e) = rw e
+    fits-reference v t (ref-in e) = rw e
+    fits-reference v t (ref-present {d = d} e K) =
+        rw e
+        (only-tag (K .tag) (constantsOf vs d) (K .stands .listed) (known-constant 𝒯 vs d (K .tag) (K .known))
+        (λ x m. one-constant g T d x (K .tag) (constant-known 𝒯 vs d x m) (K .known))
+        ∙ ap To (K .stands .names))
+
+    pub reference-decides : (v t : ℕ) → (referenceOf 𝒯 vs (typed vs v) ≡ To t) ↔ Fits 𝒯 vs v (ref t)
+    reference-decides v t = (reference-fits v t, fits-reference v t)
