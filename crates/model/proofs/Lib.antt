@@ -10,3 +10,5 @@ pub mod Mean
 pub mod Lawful
 pub mod Invariant
 pub mod FitsSound
+pub mod Decode
+pub mod StepSound
