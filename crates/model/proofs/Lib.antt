@@ -12,3 +12,4 @@ pub mod Invariant
 pub mod FitsSound
 pub mod Decode
 pub mod StepSound
+pub mod EdgeSound
