@@ -13,3 +13,4 @@ pub mod FitsSound
 pub mod Decode
 pub mod StepSound
 pub mod EdgeSound
+pub mod BlockSound

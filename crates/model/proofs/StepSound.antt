@@ -281,7 +281,7 @@ module _ (𝒯 : Tables) (Is : Allocation) (memory₀ : List ℕ) (narrow : leng
     pub value : reg r b ≡ ρ (valueIn st b)
     pub at : sum (reg r b) c ≡ ρ (valueIn st b) + c
 
-  access-ok : (st : Reading) (r m : List ℕ) (g b c t : ℕ) → Tidy st g → Invariant 𝒯 Is memory₀ ρ st r m → b < 8 → referenceOf 𝒯 (st .values) (typed (st .values) (valueIn st b)) ≡ To t → c < 𝒯 .size t
+  pub access-ok : (st : Reading) (r m : List ℕ) (g b c t : ℕ) → Tidy st g → Invariant 𝒯 Is memory₀ ρ st r m → b < 8 → referenceOf 𝒯 (st .values) (typed (st .values) (valueIn st b)) ≡ To t → c < 𝒯 .size t
       → Access st r b c t
   access-ok st r m g b c t T I hb e hc =
       let a : Is (ρ (valueIn st b)) t = ref-sound 𝒯 Is (length memory₀) narrow law tab ρ (st .values) (I .values) (valueIn st b) t (reference-fits 𝒯 (st .values) (valueIn st b) t e) in
