@@ -108,6 +108,7 @@ module _ (𝒯 : Tables) (Is : Allocation) (memory₀ : List ℕ) (narrow : leng
     pub reads : readingAt 𝒯 P (s .block) (s .offset) ≡ ok reading
     pub tidy : Tidy reading (suc (s .offset))
     pub mirrors : Invariant 𝒯 Is memory₀ (valuation P (s .block) origin) reading (s .registers) (s .memory)
+    pub begins : s .offset ≡ 0 → Stands 𝒯 Is P (s .block) (s .registers) × MemoryFit 𝒯 Is memory₀ (s .memory)
 
   -- a block's first instruction
   pub at-entry : (s : State) → s .offset ≡ 0 → Stands 𝒯 Is P (s .block) (s .registers) → MemoryFit 𝒯 Is memory₀ (s .memory) → At s
@@ -125,6 +126,7 @@ module _ (𝒯 : Tables) (Is : Allocation) (memory₀ : List ℕ) (narrow : leng
         tidy = rw z (entry-tidy (P .annotation (s .block)) (A .eight (s .block)));
         mirrors = entry-ok 𝒯 Is memory₀ narrow law tab (valuation P (s .block) o) (P .annotation (s .block)) (s .registers) (s .memory) (A .eight (s .block))
             (λ i h. A .names (s .block) i (B .exists) h) (λ i h. valuation-entry P (s .block) o i h) (B .eight) (B .meets) M;
+        begins = λ z. (B, M);
       }
 
   -- one step from there: on inside the block, out of it to another, or to the halt
@@ -160,6 +162,7 @@ module _ (𝒯 : Tables) (Is : Allocation) (memory₀ : List ℕ) (narrow : leng
         reads = ok-then _ _ (a .reading) (a .reads) ∙ rw e q;
         tidy = plain-tidy 𝒯 (tab .eight) _ (suc (s .offset)) x (a .reading) st' (omega arith) small (a .tidy) q₁;
         mirrors = K .kept;
+        begins = λ z. absurd (omega arith);
       })
     where
       byLess′ : (suc (s .offset) ≡ P .long (s .block) → ⊥) → s .offset < P .long (s .block) → suc (s .offset) < P .long (s .block)

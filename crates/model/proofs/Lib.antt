@@ -14,3 +14,4 @@ pub mod Decode
 pub mod StepSound
 pub mod EdgeSound
 pub mod BlockSound
+pub mod MachineLaws

@@ -1,0 +1,291 @@
+-- Laws of the machine for any routine: where a step leads, that a run ends where its last step does, and that it can be gone on with.
+use mathlib.Core.Path.{_≡_, refl, sym, ap, subst, _∙_}
+use mathlib.Core.Logic.{_⊎_, inl, inr}
+use mathlib.Core.Bool.{Bool, true, false, not, false≢true}
+use mathlib.Core.List.{List, [], _∷_}
+use Prim.Native.Nat.{ℕ, zero, suc, _+_, _-_, _≤_, _<_}
+use native.Mathlib.Omega.{arith}
+use native.Mathlib.Nat.{add-zero, zero-add, suc-add}
+use lib.Dec.{ltb, eqb}
+use lib.ListN.{length, getD, set, length-set}
+use borrow.Author.Tests.{ltb-true, lt-ltb, eqb-true, eqb-false}
+use Rattle.model.specs.Question.{_and_, pick, Question, Refusal, Outcome, ok, refused}
+use Rattle.model.specs.Table.{Routine}
+use Rattle.model.specs.Machine.{Plain, End, halt, jump, ifEqual, ifLess, Instruction, plain, end, malformed, instructionAt, Effect, put, read, write, effect, addressed, registersAfter, memoryAfter, Next, stop, enter, next, targetsExist, State, Step, goes, halts, faults, need, after, atHalt, entering, leave, indexOf, atEnd, perform, step, Passes, here, on, Ran, halted, paused, faulted, onward, finish, steps, runBlocks}
+use Rattle.model.proofs.Logic.{byTest, and-true, not-true, pick-both}
+use Rattle.model.proofs.BlockSound.{Sized}
+
+-- ---- one step, taken apart
+
+pub goes-same : {s s' : State} → goes s ≡ goes s' → s ≡ s'
+goes-same e = cc
+
+halts-same : {s s' : State} → halts s ≡ halts s' → s ≡ s'
+halts-same e = cc
+
+faults-same : {q q' : Question} {s s' : State} → faults q s ≡ faults q' s' → s ≡ s'
+faults-same e = cc
+
+pub goes-halts : {s s' : State} → goes s ≡ halts s' → ⊥
+goes-halts e = let z : _≡_ {A = ℕ} 0 1 = cc in omega arith
+
+pub goes-faults : {q : Question} {s s' : State} → goes s ≡ faults q s' → ⊥
+goes-faults e = let z : _≡_ {A = ℕ} 0 1 = cc in omega arith
+
+pub halts-faults : {q : Question} {s s' : State} → halts s ≡ faults q s' → ⊥
+halts-faults e = let z : _≡_ {A = ℕ} 0 1 = cc in omega arith
+
+-- where a step leads: to the next instruction of the block; at the block's end, to another block or to the halt; or nowhere
+pub data Leads (P : Routine) (s : State) : Step → Type 0 where
+  inside : (f : Effect) → (suc (s .offset) ≡ P .long (s .block) → ⊥) → Leads P s (goes (after s f))
+  beyond : (t : ℕ) → t < P .count → suc (s .offset) ≡ P .long (s .block) → Leads P s (goes (entering s t))
+  finally : suc (s .offset) ≡ P .long (s .block) → Leads P s (halts (atHalt s))
+  nowhere : (q : Question) → Leads P s (faults q s)
+
+module _ (P : Routine) where
+  need-leads : (s : State) (b : Bool) (q : Question) (k : Unit {0} → Step) → (b ≡ true → Leads P s (k tt)) → Leads P s (need b q s k)
+  unfolding need
+  need-leads s true q k h = h refl
+  need-leads s false q k h = nowhere q
+
+  -- a block's end leads to a block that exists
+  end-leads : (s : State) (e : End) → suc (s .offset) ≡ P .long (s .block) → targetsExist (P .count) (s .block) e ≡ true → Leads P s (leave s (next e (s .block) (s .registers)))
+  unfolding targetsExist next leave
+  end-leads s halt l t = finally l
+  end-leads s (jump c) l t = beyond c (ltb-true _ _ t) l
+  end-leads s (ifEqual x k c) l t =
+      let (t₁, t₂) = and-true _ _ t in
+      pick-both (λ (n : Next). Leads P s (leave s n)) (eqb (getD (s .registers) x 0) k) (enter c) (enter (suc (s .block))) (λ q. beyond c (ltb-true _ _ t₁) l) (λ q. beyond (suc (s .block)) (ltb-true _ _ t₂) l)
+  end-leads s (ifLess x y c) l t =
+      let (t₁, t₂) = and-true _ _ t in
+      pick-both (λ (n : Next). Leads P s (leave s n)) (ltb (getD (s .registers) x 0) (getD (s .registers) y 0)) (enter c) (enter (suc (s .block))) (λ q. beyond c (ltb-true _ _ t₁) l) (λ q. beyond (suc (s .block)) (ltb-true _ _ t₂) l)
+
+  performs : (s : State) (x : Instruction) → Leads P s (perform P x s)
+  unfolding perform
+  performs s malformed = nowhere _
+  performs s (plain x) = need-leads s _ _ _ (λ p. need-leads s _ _ _ (λ q. inside (effect x (s .registers)) (eqb-false _ _ (not-true _ p))))
+  performs s (end e) = need-leads s _ _ _ (λ p. need-leads s _ _ _ (λ q. end-leads s e (eqb-true _ _ p) q))
+
+  pub leads : (s : State) → Leads P s (step P s)
+  unfolding step
+  leads s = need-leads s _ _ _ (λ q. performs s (instructionAt P (s .block) (s .offset)))
+
+  -- a fault leaves the state as it was before the instruction
+  pub fault-stays : (s s' : State) (q : Question) → step P s ≡ faults q s' → s' ≡ s
+  fault-stays s s' q e = go (step P s) (leads s) e
+    where
+      go : (x : Step) → Leads P s x → x ≡ faults q s' → s' ≡ s
+      go x (inside f d) e = absurd (goes-faults e)
+      go x (beyond t h l) e = absurd (goes-faults e)
+      go x (finally l) e = absurd (halts-faults e)
+      go x (nowhere q) e = sym (faults-same e)
+
+  -- a halt changes the counts alone
+  pub halt-stays : (s s' : State) → step P s ≡ halts s' → s' ≡ atHalt s
+  halt-stays s s' e = go (step P s) (leads s) e
+    where
+      go : (x : Step) → Leads P s x → x ≡ halts s' → s' ≡ atHalt s
+      go x (inside f d) e = absurd (goes-halts e)
+      go x (beyond t h l) e = absurd (goes-halts e)
+      go x (finally l) e = sym (halts-same e)
+      go x (nowhere q) e = absurd (halts-faults (sym e))
+
+-- ---- states passed through
+
+length-after : (f : Effect) (r m : List ℕ) → (length (registersAfter f r m) ≡ length r) × (length (memoryAfter f m) ≡ length m)
+unfolding registersAfter memoryAfter
+length-after (put a x) r m = (length-set r a x, refl)
+length-after (read a x) r m = (length-set r a _, refl)
+length-after (write x y) r m = (refl, length-set m x y)
+
+-- what holds of every state passed through, from a state of its own block and offset on
+pub record Placed (P : Routine) (s₀ s : State) : Type 0 where
+  pub exists : s .block < P .count
+  pub within : s .offset < P .long (s .block)
+  pub longRegisters : length (s .registers) ≡ length (s₀ .registers)
+  pub longMemory : length (s .memory) ≡ length (s₀ .memory)
+  pub untouched : (s .carried ≡ s₀ .carried → s ≡ s₀) × (s₀ .carried ≤ s .carried)
+
+module _ (P : Routine) (S : Sized P) where
+  pub placed-step : (s₀ s s' : State) → Placed P s₀ s → step P s ≡ goes s' → Placed P s₀ s'
+  placed-step s₀ s s' A e = go (step P s) (leads P s) e
+    where
+      go : (x : Step) → Leads P s x → x ≡ goes s' → Placed P s₀ s'
+      go x (inside f d) e =
+          let (r, m) = length-after f (s .registers) (s .memory) in
+          rw (← goes-same e) (record {
+            exists = A .exists;
+            within = let w = A .within in omega arith;
+            longRegisters = r ∙ A .longRegisters;
+            longMemory = m ∙ A .longMemory;
+            untouched = (λ z. absurd (let y = A .untouched .1 in omega arith), let y = A .untouched .1 in omega arith);
+          })
+      go x (beyond t h l) e =
+          rw (← goes-same e) (record {
+            exists = h;
+            within = S .least t h;
+            longRegisters = A .longRegisters;
+            longMemory = A .longMemory;
+            untouched = (λ z. absurd (let y = A .untouched .1 in omega arith), let y = A .untouched .1 in omega arith);
+          })
+      go x (finally l) e = absurd (goes-halts (sym e))
+      go x (nowhere q) e = absurd (goes-faults (sym e))
+
+  pub placed-here : (s : State) → s .block < P .count → s .offset ≡ 0 → Placed P s s
+  placed-here s h z =
+      record { exists = h; within = rw z (S .least (s .block) h); longRegisters = refl; longMemory = refl; untouched = (λ e. refl, omega arith) }
+
+  pub placed : (last : ℕ) (s₀ s : State) → s₀ .block < P .count → s₀ .offset ≡ 0 → Passes P last s₀ s → Placed P s₀ s
+  placed last s₀ s h z here = placed-here s₀ h z
+  placed last s₀ s h z (on {s₁ = s₁} p l e) = placed-step s₀ s₁ s (placed last s₀ s₁ h z p) e
+
+  -- The index is always below the code length: Q22 never has a no in a run past Q5 and Q16.
+  pub index-below : (last : ℕ) (s₀ s : State) → s₀ .block < P .count → s₀ .offset ≡ 0 → Passes P last s₀ s → indexOf P s < P .total
+  index-below last s₀ s h z p =
+      let A = placed last s₀ s h z p in
+      let i = S .inside (s .block) (A .exists) in
+      let w = A .within in
+      omega arith
+
+-- ---- the last state of a run
+
+pub data Last (P : Routine) (last : ℕ) (s₀ : State) : Ran → Type 0 where
+  pausing : {s : State} → Passes P last s₀ s → s .finished ≡ last → s .offset ≡ 0 → Last P last s₀ (paused s)
+  halting : {s s' : State} → Passes P last s₀ s → s .finished < last → step P s ≡ halts s' → Last P last s₀ (halted s')
+  faulting : {s : State} {q : Question} → Passes P last s₀ s → s .finished < last → step P s ≡ faults q s → Last P last s₀ (faulted q s)
+
+-- the steps of one block, up to its end
+pub data BlockEnd (P : Routine) (last : ℕ) (s₀ : State) (n : ℕ) : Step → Type 0 where
+  next-block : {s : State} → Passes P last s₀ s → s .offset ≡ 0 → s .block < P .count → s .finished ≡ suc n → BlockEnd P last s₀ n (goes s)
+  halt-here : {s s' : State} → Passes P last s₀ s → s .finished < last → step P s ≡ halts s' → BlockEnd P last s₀ n (halts s')
+  fault-here : {s : State} {q : Question} → Passes P last s₀ s → s .finished < last → step P s ≡ faults q s → BlockEnd P last s₀ n (faults q s)
+
+module _ (P : Routine) (S : Sized P) (last : ℕ) (s₀ : State) where
+  -- one step of a block with n more after it, where those are known to come to its end
+  step-end : (n : ℕ) (s : State) → Passes P last s₀ s → s .finished < last → s .block < P .count → s .offset + suc n ≡ P .long (s .block)
+      → ((s' : State) → Passes P last s₀ s' → s' .block < P .count → s' .finished ≡ s .finished → 1 ≤ n → s' .offset + n ≡ P .long (s' .block) → BlockEnd P last s₀ (s .finished) (steps P n s'))
+      → (x : Step) → Leads P s x → step P s ≡ x → BlockEnd P last s₀ (s .finished) (onward x (λ s'. steps P n s'))
+  unfolding onward steps
+  step-end n s p l h e rest x (inside f d) q = rest (after s f) (on p l q) h refl (more n d e) (omega arith)
+    where
+      more : (n : ℕ) → (suc (s .offset) ≡ P .long (s .block) → ⊥) → s .offset + suc n ≡ P .long (s .block) → 1 ≤ n
+      more zero d e = absurd (d (omega arith))
+      more (suc n) d e = omega arith
+  step-end n s p l h e rest x (beyond t k m) q =
+      let z : n ≡ 0 = omega arith in
+      rw z (next-block (on p l q) refl k refl)
+  step-end n s p l h e rest x (finally m) q = halt-here p l q
+  step-end n s p l h e rest x (nowhere k) q = fault-here p l q
+
+  block-end : (n : ℕ) (s : State) → Passes P last s₀ s → s .finished < last → s .block < P .count → s .offset + suc n ≡ P .long (s .block)
+      → BlockEnd P last s₀ (s .finished) (steps P (suc n) s)
+  unfolding steps
+  block-end zero s p l h e = step-end zero s p l h e (λ s' p' h' f m e'. absurd (omega arith)) (step P s) (leads P s) refl
+  block-end (suc n) s p l h e =
+      step-end (suc n) s p l h e (λ s' p' h' f m e'. subst (λ (k : ℕ). BlockEnd P last s₀ k (steps P (suc n) s')) f (block-end n s' p' (rw f l) h' e'))
+      (step P s) (leads P s) refl
+
+  -- a whole block, from its first instruction
+  whole-block : (s : State) → Passes P last s₀ s → s .finished < last → s .block < P .count → s .offset ≡ 0 → BlockEnd P last s₀ (s .finished) (steps P (P .long (s .block)) s)
+  whole-block s p l h z = go (P .long (s .block)) refl (S .least (s .block) h)
+    where
+      go : (n : ℕ) → P .long (s .block) ≡ n → 1 ≤ n → BlockEnd P last s₀ (s .finished) (steps P n s)
+      go zero e m = absurd (omega arith)
+      go (suc n) e m = block-end n s p l h (omega arith)
+
+  finish-last : (x : Step) (n : ℕ) (k : State → Ran) → BlockEnd P last s₀ n x
+      → ((s : State) → Passes P last s₀ s → s .block < P .count → s .offset ≡ 0 → s .finished ≡ suc n → Last P last s₀ (k s)) → Last P last s₀ (finish x k)
+  unfolding finish
+  finish-last x n k (next-block {s = s} p z h f) rest = rest s p h z f
+  finish-last x n k (halt-here p l q) rest = halting p l q
+  finish-last x n k (fault-here p l q) rest = faulting p l q
+
+  -- a run's end is that of the last state passed through
+  pub blocks-last : (k : ℕ) (s : State) → Passes P last s₀ s → s .finished + k ≡ last → s .block < P .count → s .offset ≡ 0 → Last P last s₀ (runBlocks P k s)
+  unfolding runBlocks
+  blocks-last zero s p e h z = pausing p (omega arith) z
+  blocks-last (suc k) s p e h z =
+      finish-last _ (s .finished) (λ s'. runBlocks P k s') (whole-block s p (omega arith) h z) (λ s' p' h' z' f. blocks-last k s' p' (omega arith) h' z')
+
+-- ---- a run gone on with
+
+-- a paused run goes on
+unfoldable pub resume : Ran → (State → Ran) → Ran
+resume (paused s) k = k s
+resume (halted s) k = halted s
+resume (faulted q s) k = faulted q s
+
+finish-resume : (x : Step) (f g : State → Ran) (k : State → Ran) → ((s : State) → f s ≡ resume (g s) k) → finish x f ≡ resume (finish x g) k
+unfolding finish resume
+finish-resume (goes s) f g k h = h s
+finish-resume (halts s) f g k h = refl
+finish-resume (faults q s) f g k h = refl
+
+-- a run of j + k blocks is a run of j gone on with for k
+pub blocks-plus : (P : Routine) (j k : ℕ) (s : State) → runBlocks P (j + k) s ≡ resume (runBlocks P j s) (λ s'. runBlocks P k s')
+unfolding runBlocks resume
+blocks-plus P zero k s = rw zero-add
+blocks-plus P (suc j) k s =
+    rw suc-add (finish-resume (steps P (P .long (s .block)) s) (λ s'. runBlocks P (j + k) s') (λ s'. runBlocks P j s') (λ s'. runBlocks P k s') (λ s'. blocks-plus P j k s'))
+
+-- ---- counts that start later
+
+-- the same state with more blocks finished and more instructions carried out
+abbrev pub later : ℕ → ℕ → State → State
+later f c s = record { block = s .block; offset = s .offset; registers = s .registers; memory = s .memory; finished = f + s .finished; carried = c + s .carried }
+
+unfoldable pub laterStep : ℕ → ℕ → Step → Step
+laterStep f c (goes s) = goes (later f c s)
+laterStep f c (halts s) = halts (later f c s)
+laterStep f c (faults q s) = faults q (later f c s)
+
+unfoldable pub laterRan : ℕ → ℕ → Ran → Ran
+laterRan f c (halted s) = halted (later f c s)
+laterRan f c (paused s) = paused (later f c s)
+laterRan f c (faulted q s) = faulted q (later f c s)
+
+module _ (P : Routine) (f c : ℕ) where
+  need-later : (b : Bool) (q : Question) (s : State) (k k' : Unit {0} → Step) → k' tt ≡ laterStep f c (k tt) → need b q (later f c s) k' ≡ laterStep f c (need b q s k)
+  unfolding need laterStep
+  need-later true q s k k' e = e
+  need-later false q s k k' e = refl
+
+  suc-later : (s : State) (x : Effect) → _≡_ {A = Step} (goes (after (later f c s) x)) (goes (later f c (after s x)))
+  suc-later s x = let e : suc (c + s .carried) ≡ c + suc (s .carried) = omega arith in rw e
+
+  leave-later : (s : State) (n : Next) → leave (later f c s) n ≡ laterStep f c (leave s n)
+  unfolding leave laterStep
+  leave-later s stop = let e : suc (c + s .carried) ≡ c + suc (s .carried) = omega arith in let e' : suc (f + s .finished) ≡ f + suc (s .finished) = omega arith in rw (e, e')
+  leave-later s (enter t) = let e : suc (c + s .carried) ≡ c + suc (s .carried) = omega arith in let e' : suc (f + s .finished) ≡ f + suc (s .finished) = omega arith in rw (e, e')
+
+  perform-later : (x : Instruction) (s : State) → perform P x (later f c s) ≡ laterStep f c (perform P x s)
+  unfolding perform laterStep
+  perform-later malformed s = refl
+  perform-later (plain x) s = need-later _ _ s _ _ (need-later _ _ s _ _ (suc-later s (effect x (s .registers))))
+  perform-later (end e) s = need-later _ _ s _ _ (need-later _ _ s _ _ (leave-later s (next e (s .block) (s .registers))))
+
+  step-later : (s : State) → step P (later f c s) ≡ laterStep f c (step P s)
+  unfolding step
+  step-later s = need-later _ _ s _ _ (perform-later (instructionAt P (s .block) (s .offset)) s)
+
+  onward-later : (x : Step) (k : State → Step) → ((s : State) → k (later f c s) ≡ laterStep f c (k s)) → onward (laterStep f c x) k ≡ laterStep f c (onward x k)
+  unfolding onward laterStep
+  onward-later (goes s) k h = h s
+  onward-later (halts s) k h = refl
+  onward-later (faults q s) k h = refl
+
+  steps-later : (n : ℕ) (s : State) → steps P n (later f c s) ≡ laterStep f c (steps P n s)
+  unfolding steps laterStep
+  steps-later zero s = refl
+  steps-later (suc n) s = rw (step-later s) (onward-later (step P s) (λ s'. steps P n s') (λ s'. steps-later n s'))
+
+  finish-later : (x : Step) (k : State → Ran) → ((s : State) → k (later f c s) ≡ laterRan f c (k s)) → finish (laterStep f c x) k ≡ laterRan f c (finish x k)
+  unfolding finish laterStep laterRan
+  finish-later (goes s) k h = h s
+  finish-later (halts s) k h = refl
+  finish-later (faults q s) k h = refl
+
+  pub blocks-later : (k : ℕ) (s : State) → runBlocks P k (later f c s) ≡ laterRan f c (runBlocks P k s)
+  unfolding runBlocks laterRan
+  blocks-later zero s = refl
+  blocks-later (suc k) s = rw (steps-later (P .long (s .block)) s) (finish-later (steps P (P .long (s .block)) s) (λ s'. runBlocks P k s') (λ s'. blocks-later k s'))
