@@ -15,3 +15,4 @@ pub mod StepSound
 pub mod EdgeSound
 pub mod BlockSound
 pub mod MachineLaws
+pub mod TableLaws
