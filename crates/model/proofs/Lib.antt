@@ -16,3 +16,4 @@ pub mod EdgeSound
 pub mod BlockSound
 pub mod MachineLaws
 pub mod TableLaws
+pub mod MeetsDecide
