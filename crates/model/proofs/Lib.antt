@@ -17,3 +17,5 @@ pub mod BlockSound
 pub mod MachineLaws
 pub mod TableLaws
 pub mod MeetsDecide
+pub mod RunSound
+pub mod RunCalls

@@ -1,0 +1,193 @@
+-- The public run: past its opening questions it is the machine's; what it leaves where nothing is carried out; and runs gone on with.
+use mathlib.Core.Path.{_≡_, refl, sym, ap, subst, _∙_}
+use mathlib.Core.Logic.{_⊎_, inl, inr}
+use mathlib.Core.Bool.{Bool, true, false}
+use mathlib.Core.List.{List}
+use Prim.Native.Nat.{ℕ, zero, suc, _+_, _≤_, _<_}
+use native.Mathlib.Omega.{arith}
+use native.Mathlib.Nat.{zero-add, add-zero}
+use lib.Dec.{ltb, leb}
+use lib.ListN.{length}
+use borrow.Author.Tests.{ltb-true, lt-ltb, le-leb}
+use Rattle.model.specs.Question.{_and_, Question, numberOf, q1, q2, q3, q4, q5, q6, q7, q8, q9, q10, q11, q12, q13, q14, q15, q16, q17, q18, q19, q20, q21, q22, Refusal, Outcome, ok, refused}
+use Rattle.model.specs.Table.{Routine, routineOf, codeLengthsAsk, lengthsAsk}
+use Rattle.model.specs.Machine.{State, step, halts, faults, atHalt, indexOf, Passes, here, Ran, halted, paused, faulted, runBlocks, Run, answerAt, answerOf, refusedRun, startAsk, memoryLengthAsk, runAsk, begin, opened, run}
+use Rattle.model.proofs.Logic.{byTest, true-and, ask-ok, ok-ask, passed-then, ok-then, not-ok}
+use Rattle.model.proofs.BlockSound.{Sized}
+use Rattle.model.proofs.TableLaws.{sized, memory-length}
+use Rattle.model.proofs.MachineLaws.{Placed, placed, index-below, Last, pausing, halting, faulting, blocks-last, halt-stays, resume, blocks-plus, later, laterRan, blocks-later}
+
+-- ---- the opening questions
+
+pub record Opens (blocks code memory : List ℕ) (b : ℕ) : Type 0 where
+  pub codeLengths : codeLengthsAsk (length blocks) (length code) ≡ ok tt
+  pub lengths : lengthsAsk (routineOf blocks code) ≡ ok tt
+  pub exists : b < routineOf blocks code .count
+  pub bound : memoryLengthAsk (length memory) ≡ ok tt
+
+pub opens : (blocks code memory : List ℕ) (b : ℕ) → runAsk blocks code memory b ≡ ok tt → Opens blocks code memory b
+unfolding runAsk startAsk
+opens blocks code memory b q =
+    let (c, q₁) = passed-then _ _ q in
+    let (l, q₂) = passed-then _ _ q₁ in
+    let (s, m) = passed-then _ _ q₂ in
+    record { codeLengths = c; lengths = l; exists = ltb-true _ _ (ask-ok _ _ _ s .0); bound = m }
+
+pub asked-ok : (blocks code memory : List ℕ) (b : ℕ) → Opens blocks code memory b → runAsk blocks code memory b ≡ ok tt
+unfolding runAsk startAsk
+asked-ok blocks code memory b O = ok-then _ _ tt (O .codeLengths) ∙ ok-then _ _ tt (O .lengths) ∙ ok-then _ _ tt (ok-ask _ _ _ (lt-ltb _ _ (O .exists))) ∙ O .bound
+
+-- past the opening questions a run is the machine's
+pub run-is : (blocks code memory : List ℕ) (b : ℕ) (r : List ℕ) (k : ℕ) → Opens blocks code memory b
+    → run blocks code memory b r k ≡ answerOf (routineOf blocks code) (runBlocks (routineOf blocks code) k (begin b r memory))
+unfolding run opened
+run-is blocks code memory b r k O = rw (asked-ok blocks code memory b O)
+
+-- and ends where the last state passed through does
+pub run-last : (blocks code memory : List ℕ) (b : ℕ) (r : List ℕ) (k : ℕ) → Opens blocks code memory b
+    → Last (routineOf blocks code) k (begin b r memory) (runBlocks (routineOf blocks code) k (begin b r memory))
+run-last blocks code memory b r k O =
+    blocks-last (routineOf blocks code) (sized blocks code (O .lengths)) k (begin b r memory) k (begin b r memory) here (zero-add k) (O .exists) refl
+
+-- a run past its opening questions always has its index below the code length
+pub run-index : (blocks code memory : List ℕ) (b : ℕ) (r : List ℕ) (k : ℕ) → runAsk blocks code memory b ≡ ok tt
+    → (s : State) → Passes (routineOf blocks code) k (begin b r memory) s → indexOf (routineOf blocks code) s < routineOf blocks code .total
+run-index blocks code memory b r k q s p =
+    let O = opens blocks code memory b q in
+    index-below (routineOf blocks code) (sized blocks code (O .lengths)) k (begin b r memory) s (O .exists) refl p
+
+-- ---- a run that carried nothing out
+
+-- what a run that carried nothing out leaves
+pub record Untouched (a : Run) (r m : List ℕ) : Type 0 where
+  pub registers : a .registers ≡ r
+  pub memory : a .memory ≡ m
+
+module _ (blocks code memory : List ℕ) (b : ℕ) (r : List ℕ) (k : ℕ) where
+  abbrev P : Routine
+  P = routineOf blocks code
+
+  last-untouched : (x : Ran) → Sized P → b < P .count → Last P k (begin b r memory) x → answerOf P x .carried ≡ 0 → Untouched (answerOf P x) r memory
+  unfolding answerOf
+  last-untouched x S h (pausing {s = s} p f z) e =
+      let same : s ≡ begin b r memory = placed P S k (begin b r memory) s h refl p .untouched .0 e in rw same (record { registers = refl; memory = refl })
+  last-untouched x S h (halting {s = s} {s' = s'} p f q) e =
+      let c : s' .carried ≡ suc (s .carried) = ap (λ (y : State). y .carried) (halt-stays P s s' q) in absurd (omega arith)
+  last-untouched x S h (faulting {s = s} p f q) e =
+      let same : s ≡ begin b r memory = placed P S k (begin b r memory) s h refl p .untouched .0 e in rw same (record { registers = refl; memory = refl })
+
+  -- a run with no instruction carried out, refused or not, leaves registers and memory as they were
+  pub run-untouched : run blocks code memory b r k .carried ≡ 0 → Untouched (run blocks code memory b r k) r memory
+  unfolding run opened
+  run-untouched e = go (runAsk blocks code memory b) refl e
+    where
+      go : (o : Outcome (Unit {0})) → runAsk blocks code memory b ≡ o → opened o P memory b r k .carried ≡ 0 → Untouched (opened o P memory b r k) r memory
+      go (ok u) q e =
+          let O = opens blocks code memory b q in
+          last-untouched _ (sized blocks code (O .lengths)) (O .exists) (run-last blocks code memory b r k O) e
+      go (refused f) q e = record { registers = refl; memory = refl }
+
+  -- a run that faults ends in a state passed through, as it was before the instruction with the no
+  pub record Faulted (q : Question) : Type 0 where
+    pub state : State
+    pub passed : Passes P k (begin b r memory) state
+    pub fault : step P state ≡ faults q state
+    pub answer : run blocks code memory b r k ≡ answerAt P (numberOf q) state
+
+  faulted-from : (x : Ran) (s : State) (q : Question) → x ≡ faulted q s → Last P k (begin b r memory) x → Passes P k (begin b r memory) s × (step P s ≡ faults q s)
+  faulted-from x s q e (pausing p f z) = absurd (let y : _≡_ {A = ℕ} 0 1 = cc in omega arith)
+  faulted-from x s q e (halting p f y) = absurd (let y : _≡_ {A = ℕ} 0 1 = cc in omega arith)
+  faulted-from x s q e (faulting {s = s'} {q = q'} p f y) =
+      let a : s' ≡ s = cc in
+      let c : q' ≡ q = cc in
+      (rw (← a) p, rw (← a, ← c) y)
+
+  pub run-faulted : (s : State) (q : Question) → Opens blocks code memory b → runBlocks P k (begin b r memory) ≡ faulted q s → Faulted q
+  unfolding answerOf
+  run-faulted s q O e =
+      let (p, f) = faulted-from _ s q e (run-last blocks code memory b r k O) in
+      record { state = s; passed = p; fault = f; answer = run-is blocks code memory b r k O ∙ ap (answerOf P) e }
+
+-- ---- a run of j + k blocks is a run of j gone on with for k
+
+-- the answer of a run gone on with: the counts add up
+abbrev pub gone : Run → Run → Run
+gone a c =
+    record {
+      number = c .number;
+      block = c .block;
+      index = c .index;
+      finished = a .finished + c .finished;
+      registers = c .registers;
+      memory = c .memory;
+      carried = a .carried + c .carried;
+    }
+
+not-forty : (q : Question) → numberOf q ≡ 40 → ⊥
+not-forty q1 e = omega arith
+not-forty q2 e = omega arith
+not-forty q3 e = omega arith
+not-forty q4 e = omega arith
+not-forty q5 e = omega arith
+not-forty q6 e = omega arith
+not-forty q7 e = omega arith
+not-forty q8 e = omega arith
+not-forty q9 e = omega arith
+not-forty q10 e = omega arith
+not-forty q11 e = omega arith
+not-forty q12 e = omega arith
+not-forty q13 e = omega arith
+not-forty q14 e = omega arith
+not-forty q15 e = omega arith
+not-forty q16 e = omega arith
+not-forty q17 e = omega arith
+not-forty q18 e = omega arith
+not-forty q19 e = omega arith
+not-forty q20 e = omega arith
+not-forty q21 e = omega arith
+not-forty q22 e = omega arith
+
+answer-later : (P : Routine) (s : State) (x : Ran) → answerOf P (laterRan (s .finished) (s .carried) x) ≡ gone (answerAt P 40 s) (answerOf P x)
+unfolding answerOf laterRan
+answer-later P s (halted x) = refl
+answer-later P s (paused x) = refl
+answer-later P s (faulted q x) = refl
+
+module _ (blocks code memory : List ℕ) (b : ℕ) (r : List ℕ) (j k : ℕ) where
+  abbrev Q : Routine
+  Q = routineOf blocks code
+
+  -- what is claimed of a first run and a whole one: where the first pauses, the whole is the first gone on with by a call that is
+  -- given exactly what it returned; else both are one
+  abbrev pub Joins : Run → Run → Type 0
+  Joins a whole =
+      (a .number ≡ 40 → whole ≡ gone a (run blocks code (a .memory) (a .block) (a .registers) k)) × ((a .number ≡ 40 → ⊥) → whole ≡ a)
+
+  -- a state at a block's first instruction is the start of a run, later
+  at-start : (s : State) → s .offset ≡ 0 → s ≡ later (s .finished) (s .carried) (begin (s .block) (s .registers) (s .memory))
+  at-start s z = rw (add-zero, add-zero, z)
+
+  ran-joins : (x : Ran) → Opens blocks code memory b → Last Q j (begin b r memory) x → Joins (answerOf Q x) (answerOf Q (resume x (λ s. runBlocks Q k s)))
+  unfolding answerOf resume
+  ran-joins x O (pausing {s = s} p f z) = (
+    λ e. let S = sized blocks code (O .lengths) in
+        let A = placed Q S j (begin b r memory) s (O .exists) refl p in
+        let O' : Opens blocks code (s .memory) (s .block) = record { codeLengths = O .codeLengths; lengths = O .lengths; exists = A .exists; bound = rw (A .longMemory) (O .bound) } in
+        ap (λ (y : State). answerOf Q (runBlocks Q k y)) (at-start s z)
+        ∙ ap (answerOf Q) (blocks-later Q (s .finished) (s .carried) k (begin (s .block) (s .registers) (s .memory)))
+        ∙ answer-later Q s (runBlocks Q k (begin (s .block) (s .registers) (s .memory)))
+        ∙ ap (gone (answerAt Q 40 s)) (sym (run-is blocks code (s .memory) (s .block) (s .registers) k O')),
+    λ d. absurd (d refl),
+  )
+  ran-joins x O (halting p f q) = (λ e. absurd (omega arith), λ d. refl)
+  ran-joins x O (faulting {q = q} p f y) = (λ e. absurd (not-forty q e), λ d. refl)
+
+  pub run-joins : Joins (run blocks code memory b r j) (run blocks code memory b r (j + k))
+  unfolding run opened
+  run-joins = go (runAsk blocks code memory b) refl
+    where
+      go : (o : Outcome (Unit {0})) → runAsk blocks code memory b ≡ o → Joins (opened o Q memory b r j) (opened o Q memory b r (j + k))
+      go (ok u) e =
+          let O = opens blocks code memory b e in
+          rw (blocks-plus Q j k (begin b r memory)) (ran-joins (runBlocks Q j (begin b r memory)) O (run-last blocks code memory b r j O))
+      go (refused f) e = (λ z. absurd (not-forty (f .question) z), λ d. refl)
