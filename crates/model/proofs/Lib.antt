@@ -19,3 +19,5 @@ pub mod TableLaws
 pub mod MeetsDecide
 pub mod RunSound
 pub mod RunCalls
+pub mod Accepted
+pub mod Safe

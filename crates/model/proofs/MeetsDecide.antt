@@ -149,6 +149,7 @@ module _ (𝒯 : Tables) (allocations : List ℕ) (positive : (p t : ℕ) → Al
 pub record LaidOut (types tags allocations : List ℕ) (top : ℕ) : Type 0 where
   pub law : Lawful (tablesOf types tags) (Allocated allocations) top
   pub tab : Tabled (tablesOf types tags) (Allocated allocations)
+  pub asked-length : memoryLengthAsk top ≡ ok tt
   pub bound : (1 ≤ top) × (top ≤ 16384)
 
 pub laid-out : (types tags allocations : List ℕ) (top : ℕ) → layoutAsk types tags allocations top ≡ ok tt → LaidOut types tags allocations top
@@ -160,6 +161,7 @@ laid-out types tags allocations top q =
     record {
       law = lawful (tablesOf types tags) top allocations d;
       tab = tabled (tablesOf types tags) top allocations d (types-ok (tablesOf types tags) b) (words-eight types tags);
+      asked-length = c;
       bound = memory-length top c;
     }
 

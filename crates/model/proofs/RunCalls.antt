@@ -165,7 +165,7 @@ module _ (blocks code memory : List ℕ) (b : ℕ) (r : List ℕ) (j k : ℕ) wh
 
   -- a state at a block's first instruction is the start of a run, later
   at-start : (s : State) → s .offset ≡ 0 → s ≡ later (s .finished) (s .carried) (begin (s .block) (s .registers) (s .memory))
-  at-start s z = rw (add-zero, add-zero, z)
+  at-start s z = rw (add-zero (s .finished), add-zero (s .carried), z)
 
   ran-joins : (x : Ran) → Opens blocks code memory b → Last Q j (begin b r memory) x → Joins (answerOf Q x) (answerOf Q (resume x (λ s. runBlocks Q k s)))
   unfolding answerOf resume

@@ -69,7 +69,7 @@ module _ (types tags allocations memory : List ℕ) (n : ℕ) (tasks : ℕ → T
   Safe (c ∷ cs) w = Fit w × CallSafe c w × (Allowed c w → Safe cs (afterCall tasks c w))
 
 -- Take one routine or several, in any turns, with any budgets, checks and refused runs anywhere between.
-pub Demand3 : Type 0
+unfoldable pub Demand3 : Type 0
 Demand3 =
     (types tags allocations memory : List ℕ) (n : ℕ) (tasks : ℕ → Task) → Checked types tags allocations memory n tasks
     → (calls : List Call) → Safe types tags allocations memory n tasks calls (atStart tasks n memory)
