@@ -132,5 +132,5 @@ pub check-refused : (types tags blocks code : List ℕ) (r : Refusal) → typeLe
 unfolding check checkAsk verdictOf
 check-refused types tags blocks code r a c t l s q =
     let judged : judge (tablesOf types tags) (routineOf blocks code) ≡ refused r =
-        sym (ok-then _ _ tt a ∙ ok-then _ _ tt c ∙ ok-then _ _ tt t ∙ ok-then _ _ tt l ∙ ok-then _ _ tt s) ∙ q in
+    sym (ok-then _ _ tt a ∙ ok-then _ _ tt c ∙ ok-then _ _ tt t ∙ ok-then _ _ tt l ∙ ok-then _ _ tt s) ∙ q in
     (judge-refused (tablesOf types tags) (routineOf blocks code) r judged, rw q)

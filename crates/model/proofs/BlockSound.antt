@@ -149,7 +149,7 @@ module _ (𝒯 : Tables) (Is : Allocation) (memory₀ : List ℕ) (narrow : leng
       let small : suc (s .offset) < 32 = let m = S .most (s .block) (a .exists) in omega arith in
       let ρ = valuation P (s .block) (a .origin) in
       let made : Made ρ (suc (s .offset)) x (s .registers) (s .memory) =
-          λ i h. valuation-made P (s .block) (a .origin) (s .offset) i h ∙ rw (e, a .regs, a .mem) in
+      λ i h. valuation-made P (s .block) (a .origin) (s .offset) i h ∙ rw (e, a .regs, a .mem) in
       let K = plain-sound 𝒯 Is memory₀ narrow law tab ρ _ (suc (s .offset)) x (a .reading) st' (s .registers) (s .memory) (omega arith) small f (a .tidy) (a .mirrors) made q₁ in
       inner {s' = after s (effect x (s .registers))} (rw (index-inside s a, e, notEnd, K .runs)) refl refl refl
       (record {

@@ -1,6 +1,7 @@
 pub mod Logic
 pub mod Lists
 pub mod Width
+pub mod Rows
 pub mod CasesHold
 pub mod RulesDecide
 pub mod Inversion
@@ -21,3 +22,5 @@ pub mod RunSound
 pub mod RunCalls
 pub mod Accepted
 pub mod Safe
+pub mod Again
+pub mod Example

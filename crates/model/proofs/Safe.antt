@@ -205,9 +205,9 @@ module _ (types tags allocations memory : List ℕ) (n : ℕ) (tasks : ℕ → T
   unfolding atStart
   start-good =
       let at : (i b : ℕ) (r : List ℕ) → pick (ltb i n) (waiting (tasks i .start) (tasks i .registers)) done ≡ waiting b r → (i < n) × Stands 𝒯 (Allocated allocations) (P i) b r =
-          λ i b r e. byTest (ltb i n)
-          (λ q. let (eb, er) = waiting-same (rw q at e) in let h = ltb-true i n q in (h, rw (← eb, ← er) (entered i h)))
-          (λ q. absurd (not-waiting (rw q at e))) in
+      λ i b r e. byTest (ltb i n)
+      (λ q. let (eb, er) = waiting-same (rw q at e) in let h = ltb-true i n q in (h, rw (← eb, ← er) (entered i h)))
+      (λ q. absurd (not-waiting (rw q at e))) in
       record {
         fit = record {
           records = passes .records;

@@ -17,15 +17,11 @@ use Rattle.model.specs.Allocation.{isAllocated, Allocated, laid, rowsAsk
 use Rattle.model.specs.Machine.{memoryLengthAsk}
 use Rattle.model.proofs.Logic.{byTest, byEqual, byLess, either, and-true, or-true, every-true, ask-ok, passed-then, firstNo-ok, not-ok}
 use Rattle.model.proofs.Lists.{getD-past}
+use Rattle.model.proofs.Rows.{eight-words}
 use Rattle.model.proofs.Mean.{DepBelow, TyBelow}
 use Rattle.model.proofs.Lawful.{Lawful, Tabled}
 use Rattle.model.proofs.EdgeSound.{Annotated}
 use Rattle.model.proofs.BlockSound.{Sized}
-
--- a row has at most eight type words
-pub eight-words : (table : List ℕ) (k : ℕ) → length (wordsOf table k) ≤ 8
-unfolding rowOf
-eight-words table k = omega (arith, length-drop 1 (take 9 (drop (k * 9) table)), length-take 9 (drop (k * 9) table))
 
 -- ---- Q3 and Q6: well-made words name fields that exist
 
@@ -76,7 +72,7 @@ types-ok 𝒯 q =
     let (w, q₂) = passed-then _ _ q₁ in
     let count : (t : ℕ) → t < 𝒯 .count → leb 1 (𝒯 .size t) and leb (𝒯 .size t) 8 ≡ true = λ t h. ask-ok _ _ _ (firstNo-ok _ 0 _ c t (omega arith) (omega arith)) .0 in
     let word : (t f : ℕ) → t < 𝒯 .count → f < 8 → pick (ltb f (𝒯 .size t)) (wellMade (𝒯 .count) (𝒯 .size t) (getD (𝒯 .words t) f 0)) (eqb (getD (𝒯 .words t) f 0) 0) ≡ true =
-        λ t f h l. every-true 8 0 _ (ask-ok _ _ _ (firstNo-ok _ 0 _ w t (omega arith) (omega arith)) .0) f (omega arith) (omega arith) in
+    λ t f h l. every-true 8 0 _ (ask-ok _ _ _ (firstNo-ok _ 0 _ w t (omega arith) (omega arith)) .0) f (omega arith) (omega arith) in
     let few : (t : ℕ) → t < 𝒯 .count → 𝒯 .size t ≤ 8 = λ t h. leb-true _ _ (and-true _ _ (count t h) .1) in
     record {
       positive = λ t h. leb-true _ _ (and-true _ _ (count t h) .0);
@@ -192,7 +188,3 @@ module _ (𝒯 : Tables) (top : ℕ) where
         past = λ p t f a h. byLess f 8 (λ k. T .past t f (is p t a) k h) (λ k. getD-past (𝒯 .words t) f 0 (let z = w t in omega arith));
         eight = w;
       }
-
-pub words-eight : (types tags : List ℕ) (t : ℕ) → length (tablesOf types tags .words t) ≤ 8
-unfolding tablesOf
-words-eight types tags t = eight-words types t

@@ -7,18 +7,21 @@ use Prim.Native.Nat.{ℕ, zero, suc, _≤_, _<_}
 use native.Mathlib.Omega.{arith}
 use lib.Dec.{ltb, eqb}
 use lib.ListN.{length, getD}
-use borrow.Author.Tests.{eqb-true, ltb-true, lt-ltb}
+use borrow.Author.Tests.{eqb-true, eqb-false, ltb-true, lt-ltb}
 use Rattle.model.specs.declared.Reference.{Reference}
 use Rattle.model.specs.declared.Reference.the-variants.{To, Nothing}
-use Rattle.model.specs.Question.{pick}
+use Rattle.model.specs.Question.{pick, Outcome, ok}
 use Rattle.model.specs.Types.{Dep, name, con, Ty, any, ref, maybe, tagged, present, same, span, typeOf, rename}
-use Rattle.model.specs.Table.{Tables}
-use Rattle.model.specs.Reading.{Values, birthplace, typed, constantsOf, firstTag, referenceOf}
+use Rattle.model.specs.Table.{Tables, tablesOf, Routine, routineOf}
+use Rattle.model.specs.Machine.{Instruction, plain, end, malformed}
+use Rattle.model.specs.Reading.{Values, birthplace, typed, constantsOf, firstTag, referenceOf, Reading}
+use Rattle.model.specs.Check.{valueIn, readInstruction, readingAt, referenceAfter, given}
 use Rattle.model.specs.Rules.{Constant, constant-itself, by-opcode-1, by-type-same, by-taken-11, TagOf, KnownTag, Fits, ref-ref, ref-in, ref-present}
-use Rattle.model.proofs.Logic.{byTest, either}
+use Rattle.model.proofs.Logic.{byTest, either, ask-ok, then-ok, passed-then, ok-same, not-ok, not-true}
 use Rattle.model.proofs.Lists.{Member, first, later}
 use Rattle.model.proofs.RulesDecide.{constant-known, known-constant}
-use Rattle.model.proofs.Tidy.{TidyValues}
+use Rattle.model.proofs.Tidy.{TidyValues, Tidy, tidy-on, plain-tidy, entry-tidy}
+use Rattle.model.proofs.Rows.{eight-words, words-eight}
 
 pub to-same : {t u : ℕ} → To t ≡ To u → t ≡ u
 to-same e = cc
@@ -135,3 +138,44 @@ module _ (𝒯 : Tables) (vs : Values) where
 
     pub reference-decides : (v t : ℕ) → (referenceOf 𝒯 vs (typed vs v) ≡ To t) ↔ Fits 𝒯 vs v (ref t)
     reference-decides v t = (reference-fits v t, fits-reference v t)
+
+-- ---- every reading of a block is tidy
+
+module _ (types tags blocks code : List ℕ) where
+  abbrev 𝒯′ : Tables
+  𝒯′ = tablesOf types tags
+
+  abbrev P′ : Routine
+  P′ = routineOf blocks code
+
+  instruction-tidy : (b j : ℕ) (x : Instruction) (st st' : Reading) → P′ .long b ≤ 32 → j < P′ .long b → Tidy st (suc j) → readInstruction 𝒯′ P′ b j x st ≡ ok st' → Tidy st' (suc (suc j))
+  unfolding readInstruction
+  instruction-tidy b j (plain x) st st' m l T q =
+      let (p, q₁) = ask-ok _ _ _ q in
+      let d : suc j ≡ P′ .long b → ⊥ = eqb-false (suc j) (P′ .long b) (not-true _ p) in
+      plain-tidy 𝒯′ (words-eight types tags) _ (suc j) x st st' (omega arith) (omega arith) T q₁
+  instruction-tidy b j (end e) st st' m l T q =
+      let (p, q₁) = ask-ok _ _ _ q in
+      let (t, q₂) = ask-ok _ _ _ q₁ in
+      let (o, q₃) = ask-ok _ _ _ q₂ in
+      let (k, q₄) = passed-then _ _ q₃ in
+      rw (← ok-same q₄) (tidy-on st (suc j) T)
+  instruction-tidy b j malformed st st' m l T q = absurd (not-ok q)
+
+  pub reading-tidy : (b j : ℕ) (st : Reading) → P′ .long b ≤ 32 → j ≤ P′ .long b → readingAt 𝒯′ P′ b j ≡ ok st → Tidy st (suc j)
+  unfolding readingAt
+  reading-tidy b zero st m l q = rw (← ok-same q) (entry-tidy (P′ .annotation b) (unfold routineOf in (eight-words blocks b)))
+  reading-tidy b (suc j) st m l q =
+      let (st₀, r, p) = then-ok _ _ q in
+      instruction-tidy b j _ st₀ st m (omega arith) (reading-tidy b j st₀ m (omega arith) r) p
+
+  -- inside a block the type that Q10 gives is the only one that the base fits
+  pub type-unique : (b j : ℕ) (st : Reading) → P′ .long b ≤ 32 → j ≤ P′ .long b → readingAt 𝒯′ P′ b j ≡ ok st → (v t u : ℕ)
+      → Fits 𝒯′ (st .values) v (ref t) → Fits 𝒯′ (st .values) v (ref u) → t ≡ u
+  type-unique b j st m l q v t u = one-reference 𝒯′ (st .values) (suc j) (reading-tidy b j st m l q .values) v t u
+
+  -- and the answer to Q10 is that type
+  pub type-given : (b j : ℕ) (st : Reading) → P′ .long b ≤ 32 → j ≤ P′ .long b → readingAt 𝒯′ P′ b j ≡ ok st → (r t : ℕ)
+      → (given 𝒯′ P′ b j r ≡ To t) ↔ Fits 𝒯′ (st .values) (valueIn st r) (ref t)
+  unfolding given referenceAfter
+  type-given b j st m l q r t = rw q (reference-decides 𝒯′ (st .values) (suc j) (reading-tidy b j st m l q .values) (valueIn st r) t)

@@ -1,0 +1,89 @@
+-- The assumptions of demand 3 can be met: two routines over two plots, one of which stores, take turns.
+use mathlib.Core.Path.{_≡_, refl}
+use mathlib.Core.List.{List, [], _∷_, _++_}
+use Prim.Native.Nat.{ℕ, zero, suc, _<_}
+use Rattle.model.specs.Question.{_and_, _or_, every, ask, then, firstNo, verdictOf}
+use Rattle.model.specs.Word.{product}
+use Rattle.model.specs.Types.{typeOf, rename}
+use Rattle.model.specs.Table.{rowOf, tablesOf, startOf, routineOf, typeLengthsAsk, codeLengthsAsk, countAsk, wellMade, fieldWell, fieldsAsk, tagAsk, typesAsk, blocksAsk, lengthsAsk, annotationWell, annotationAsk, annotationsAsk}
+use Rattle.model.specs.Allocation.{isAllocated, laid, rowsAsk, allocationsAsk}
+use Rattle.model.specs.Machine.{formed, byOpcode, decode, effect, addressed, registersAfter, memoryAfter, next, targetsExist, need, leave, perform, step, onward, finish, steps, runBlocks, answerOf, startAsk, memoryLengthAsk, runAsk, opened, run, Run}
+use Rattle.model.specs.Reading.{typed, constantsOf, some, sameDep, isSame, saysSame, knownEqual, tagOf, beyond, knownTag, knownZero, isRef, isMaybe, isTagged, isPresent, isSpan, fits, rowFits, firstTag, referenceOf, laidAt, zeros, upFrom, entry, born, fresh, moves, movedWord, loaded, viewed, look, stored, notZero, below, notBelow, taken, untaken}
+use Rattle.model.specs.Check.{withReference, onRecord, readPlain, readEdges, readInstruction, readOn, blockAsk, judge, checkAsk, check}
+use Rattle.model.specs.MemoryCheck.{whenTrue, unlessTrue, startsTest, runTest, rankTest, tagTest, meets, fieldAsk, recordsAsk, registerAsk, layoutAsk, memoryAsk, memoryCheck, entryAsk, entryCheck}
+use Rattle.model.specs.Turns.{standingAfter, turned, afterCall, atStart, Task, Standing, waiting, done, World, Call, turn, checkingMemory, running}
+use Rattle.model.specs.Safety.{Checked, Safe}
+use Rattle.model.specs.Cases.{plotTypes, plotTags, row, refWord, sameWord, constantByte, storeWord, jumpWord, haltWord, stageBlocks, stageCode}
+use Rattle.model.proofs.Safe.{demand-3}
+
+-- a plot with a raw weight at 1, one with a corrected weight at 3; raw 5, corrected 7, and a corrected record at 8 that no plot has yet
+abbrev allocations : List ℕ
+allocations = 1 ∷ 2 ∷ 3 ∷ 2 ∷ 5 ∷ 0 ∷ 7 ∷ 1 ∷ 8 ∷ 1 ∷ []
+
+abbrev memory : List ℕ
+memory = 0 ∷ 0 ∷ 5 ∷ 1 ∷ 7 ∷ 8600 ∷ 22 ∷ 9100 ∷ 7800 ∷ 4 ∷ []
+
+-- the correction: block 0 goes to block 1, which sets stage and pointer of the plot in r1
+abbrev correctionBlocks : List ℕ
+correctionBlocks =
+    row 1 0 (refWord 2) 0 0 (refWord 1) (sameWord (constantByte 1)) 0 0
+    ++ row 3 0 (refWord 2) 0 0 (refWord 1) (sameWord (constantByte 1)) 0 0
+
+abbrev correctionCode : List ℕ
+correctionCode = jumpWord 1 ∷ storeWord 5 1 0 ∷ storeWord 4 1 1 ∷ haltWord ∷ []
+
+abbrev correction : Task
+correction = record { blocks = correctionBlocks; code = correctionCode; start = 0; registers = 0 ∷ 1 ∷ 0 ∷ 0 ∷ 8 ∷ 1 ∷ 0 ∷ 0 ∷ [] }
+
+-- the ranking: reads the corrected weight of the plot in r1 where its stage is 1
+abbrev ranking : Task
+ranking = record { blocks = stageBlocks 1; code = stageCode; start = 0; registers = 0 ∷ 1 ∷ 0 ∷ 0 ∷ 0 ∷ 0 ∷ 0 ∷ 0 ∷ [] }
+
+-- routine 0 is the correction; there are two routines, the second the ranking
+abbrev tasks : ℕ → Task
+tasks zero = correction
+tasks (suc i) = ranking
+
+pub checked : Checked plotTypes plotTags allocations memory 2 tasks
+unfolding _and_ _or_ every ask then firstNo verdictOf product typeOf rename rowOf tablesOf startOf routineOf typeLengthsAsk codeLengthsAsk countAsk wellMade fieldWell fieldsAsk tagAsk typesAsk blocksAsk lengthsAsk annotationWell annotationAsk annotationsAsk isAllocated laid rowsAsk allocationsAsk formed byOpcode decode effect addressed registersAfter memoryAfter next targetsExist need leave perform step onward finish steps runBlocks answerOf startAsk memoryLengthAsk runAsk opened run typed constantsOf some sameDep isSame saysSame knownEqual tagOf beyond knownTag knownZero isRef isMaybe isTagged isPresent isSpan fits rowFits firstTag referenceOf laidAt zeros upFrom entry born fresh moves movedWord loaded viewed look stored notZero below notBelow taken untaken withReference onRecord readPlain readEdges readInstruction readOn blockAsk judge checkAsk check whenTrue unlessTrue startsTest runTest rankTest tagTest meets fieldAsk recordsAsk registerAsk layoutAsk memoryAsk memoryCheck entryAsk entryCheck standingAfter turned afterCall atStart
+checked =
+    record {
+      memoryPassed = refl;
+      accepted = λ i h. accepts i;
+      eight = λ i h. eight i;
+      entered = λ i h. (memory, enters i);
+    }
+  where
+    accepts : (i : ℕ) → check plotTypes plotTags (tasks i .blocks) (tasks i .code) .number ≡ 0
+    accepts zero = refl
+    accepts (suc i) = refl
+
+    eight : (i : ℕ) → lib.ListN.length (tasks i .registers) ≡ 8
+    eight zero = refl
+    eight (suc i) = refl
+
+    enters : (i : ℕ) → entryCheck plotTypes plotTags allocations memory (tasks i .blocks) (tasks i .code) (tasks i .start) (tasks i .registers) .number ≡ 0
+    enters zero = refl
+    enters (suc i) = refl
+
+-- so every list of calls over them is safe
+pub example-safe : (calls : List Call) → Safe plotTypes plotTags allocations memory 2 tasks calls (atStart tasks 2 memory)
+unfolding Rattle.model.specs.Safety.Demand3
+example-safe calls = demand-3 plotTypes plotTags allocations memory 2 tasks checked calls
+
+abbrev afterAll : List Call → World → World
+afterAll [] w = w
+afterAll (c ∷ cs) w = afterAll cs (afterCall tasks c w)
+
+-- the correction enters its second block, the ranking reads the plot as it was, the correction stores and halts, the ranking of the
+-- same plot is over and its next turn is passed over, as is the correction's
+abbrev calls : List Call
+calls = turn 0 1 ∷ turn 1 1 ∷ turn 0 0 ∷ checkingMemory [] [] [] [] ∷ turn 0 7 ∷ turn 1 9 ∷ turn 0 3 ∷ running [] [] 0 [] 5 ∷ []
+
+pub plot-corrected : afterAll calls (atStart tasks 2 memory) .memory ≡ 0 ∷ 1 ∷ 8 ∷ 1 ∷ 7 ∷ 8600 ∷ 22 ∷ 9100 ∷ 7800 ∷ 4 ∷ []
+unfolding _and_ _or_ every ask then firstNo verdictOf product typeOf rename rowOf tablesOf startOf routineOf typeLengthsAsk codeLengthsAsk countAsk wellMade fieldWell fieldsAsk tagAsk typesAsk blocksAsk lengthsAsk annotationWell annotationAsk annotationsAsk isAllocated laid rowsAsk allocationsAsk formed byOpcode decode effect addressed registersAfter memoryAfter next targetsExist need leave perform step onward finish steps runBlocks answerOf startAsk memoryLengthAsk runAsk opened run typed constantsOf some sameDep isSame saysSame knownEqual tagOf beyond knownTag knownZero isRef isMaybe isTagged isPresent isSpan fits rowFits firstTag referenceOf laidAt zeros upFrom entry born fresh moves movedWord loaded viewed look stored notZero below notBelow taken untaken withReference onRecord readPlain readEdges readInstruction readOn blockAsk judge checkAsk check whenTrue unlessTrue startsTest runTest rankTest tagTest meets fieldAsk recordsAsk registerAsk layoutAsk memoryAsk memoryCheck entryAsk entryCheck standingAfter turned afterCall atStart
+plot-corrected = refl
+
+pub both-halted : (afterAll calls (atStart tasks 2 memory) .standing 0 ≡ done) × (afterAll calls (atStart tasks 2 memory) .standing 1 ≡ done)
+unfolding _and_ _or_ every ask then firstNo verdictOf product typeOf rename rowOf tablesOf startOf routineOf typeLengthsAsk codeLengthsAsk countAsk wellMade fieldWell fieldsAsk tagAsk typesAsk blocksAsk lengthsAsk annotationWell annotationAsk annotationsAsk isAllocated laid rowsAsk allocationsAsk formed byOpcode decode effect addressed registersAfter memoryAfter next targetsExist need leave perform step onward finish steps runBlocks answerOf startAsk memoryLengthAsk runAsk opened run typed constantsOf some sameDep isSame saysSame knownEqual tagOf beyond knownTag knownZero isRef isMaybe isTagged isPresent isSpan fits rowFits firstTag referenceOf laidAt zeros upFrom entry born fresh moves movedWord loaded viewed look stored notZero below notBelow taken untaken withReference onRecord readPlain readEdges readInstruction readOn blockAsk judge checkAsk check whenTrue unlessTrue startsTest runTest rankTest tagTest meets fieldAsk recordsAsk registerAsk layoutAsk memoryAsk memoryCheck entryAsk entryCheck standingAfter turned afterCall atStart
+both-halted = (refl, refl)
