@@ -2,7 +2,7 @@ pub mod Logic
 pub mod Lists
 pub mod Width
 pub mod Rows
-pub mod CasesHold
+pub mod Answers
 pub mod RulesDecide
 pub mod Inversion
 pub mod Tidy
@@ -20,7 +20,7 @@ pub mod TableLaws
 pub mod MeetsDecide
 pub mod RunSound
 pub mod RunCalls
-pub mod Accepted
+pub mod Exactly
 pub mod Safe
-pub mod Again
+pub mod ChecksAgain
 pub mod Example

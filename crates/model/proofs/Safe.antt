@@ -24,7 +24,7 @@ use Rattle.model.proofs.TableLaws.{annotated, sized}
 use Rattle.model.proofs.MeetsDecide.{LaidOut, laid-out, MemoryPasses, memory-exactly, EntryPasses, entry-exactly}
 use Rattle.model.proofs.RunSound.{RunSafe, run-safe}
 use Rattle.model.proofs.RunCalls.{Opens, run-is, run-last, run-untouched}
-use Rattle.model.proofs.Accepted.{Accepted, check-exactly, judge-exactly}
+use Rattle.model.proofs.Exactly.{Accepted, check-exactly, judge-exactly}
 
 waiting-same : {b c : ℕ} {r s : List ℕ} → waiting b r ≡ waiting c s → (b ≡ c) × (r ≡ s)
 waiting-same e = (cc, cc)

@@ -1,4 +1,4 @@
--- 01: 'Plots on trial': the cases marked *, gathered under one statement; it is proved in proofs/CasesHold.antt.
+-- 01: 'Plots on trial': the cases marked *, gathered under one statement; it is proved in proofs/Answers.antt.
 use mathlib.Core.Path.{_≡_}
 use mathlib.Core.List.{List, [], _∷_, _++_}
 use Prim.Native.Nat.{ℕ, _+_, _*_, _^_}

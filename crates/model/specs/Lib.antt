@@ -12,3 +12,4 @@ pub mod MemoryCheck
 pub mod Turns
 pub mod Safety
 pub mod Cases
+pub mod Misreadings
