@@ -1,0 +1,111 @@
+// 32-bit words: sums, differences, products and moves modulo 2^32, the signed offset, and the parts of type words and instructions.
+ghost use mathlib.Core.Path.{_≡_};
+ghost use Prim.Native.Nat.{_/_, _<_};
+ghost use Rattle.model.specs.Word.{kindOf, recordOf, firstOf, secondOf};
+ghost use Rattle.model.specs.Word.{opcodeOf, aOf, bOf, cOf};
+ghost use Rattle.model.specs.Word.{sum, difference, product, signed, moved};
+
+// ---- sums, differences and products modulo 2^32
+
+pub fn sum(x: u32, y: u32) -> u32
+    ensures { λ r. ⌜ r ≡ sum x y ⌝ }
+{
+    std::num::wrapping_add_u32(x, y)
+}
+
+pub fn difference(x: u32, y: u32) -> u32
+    ensures { λ r. ⌜ r ≡ difference x y ⌝ }
+{
+    std::num::wrapping_sub_u32(x, y)
+}
+
+// The product of two words fits twice their width, and its low half is kept.
+pub fn product(x: u32, y: u32) -> u32
+    ensures { λ r. ⌜ r ≡ product x y ⌝ }
+{
+    let whole = (x as u64) * (y as u64);
+    (whole % 4294967296) as u32
+}
+
+// The remainder is dropped.
+pub fn quotient(x: u32, c: u32) -> u32
+    requires { ⌜ 0 < c ⌝ }
+    ensures { λ r. ⌜ r ≡ x / c ⌝ }
+{
+    x / c
+}
+
+// ---- the signed offset
+
+// The 16-bit number c read as signed.
+pub fn signed(c: u32) -> i32
+    requires { ⌜ c < 65536 ⌝ }
+    ensures { λ r. ⌜ r ≡ signed c ⌝ }
+{
+    if c < 32768 {
+        c as i32
+    } else {
+        (c as i32) - 65536
+    }
+}
+
+// x moved by d. Adding 2^32 first makes every move one upwards, so that there is no branch.
+pub fn moved(x: u32, d: i32) -> u32
+    ensures { λ r. ⌜ r ≡ moved x d ⌝ }
+{
+    let up = ((d as i64) + 4294967296) as u64;
+    (((x as u64) + up) % 4294967296) as u32
+}
+
+// ---- parts of a type word
+
+pub fn kind(w: u32) -> u32
+    ensures { λ r. ⌜ (r ≡ kindOf w) × (r < 256) ⌝ }
+{
+    w / 16777216
+}
+
+pub fn record_type(w: u32) -> u32
+    ensures { λ r. ⌜ (r ≡ recordOf w) × (r < 256) ⌝ }
+{
+    w / 65536 % 256
+}
+
+pub fn first_dependency(w: u32) -> u32
+    ensures { λ r. ⌜ (r ≡ firstOf w) × (r < 256) ⌝ }
+{
+    w / 256 % 256
+}
+
+pub fn second_dependency(w: u32) -> u32
+    ensures { λ r. ⌜ (r ≡ secondOf w) × (r < 256) ⌝ }
+{
+    w % 256
+}
+
+// ---- parts of an instruction
+
+pub fn opcode(w: u32) -> u32
+    ensures { λ r. ⌜ (r ≡ opcodeOf w) × (r < 256) ⌝ }
+{
+    w / 16777216
+}
+
+// a and b number registers, so they are given as places of an array.
+pub fn a(w: u32) -> usize
+    ensures { λ r. ⌜ (r ≡ aOf w) × (r < 16) ⌝ }
+{
+    (w / 1048576 % 16) as usize
+}
+
+pub fn b(w: u32) -> usize
+    ensures { λ r. ⌜ (r ≡ bOf w) × (r < 16) ⌝ }
+{
+    (w / 65536 % 16) as usize
+}
+
+pub fn c(w: u32) -> u32
+    ensures { λ r. ⌜ (r ≡ cOf w) × (r < 65536) ⌝ }
+{
+    w % 65536
+}
