@@ -1,0 +1,55 @@
+-- `table::code_lengths` meets its contract, by the tests that led to each return.
+use mathlib.Core.Path.{_∙_}
+use Rattle.table.proofs.Questions.{told-no, told-yes}
+use Rattle.table.proofs.Answers.{blocks-broken, code-none, code-long, code-lengths-pass}
+use borrow.Author.Needs.{needs}
+use Rattle.table.proofs.code_lengths.Statement.{statement}
+use Rattle.table.proofs.code_lengths.Tie as tie
+
+whole-rows-requires : tie.Need-whole-rows-requires
+whole-rows-requires c κs = search needs
+
+refused-requires : tie.Need-refused-requires
+refused-requires c κs = search needs
+
+returns : tie.Need-returns
+returns c = c .refused .ensures ∙ blocks-broken _ _ (told-no (c .before .before .whole-rows .ensures) (c .before .if1 .taken))
+
+refused-requires-2 : tie.Need-refused-requires-2
+refused-requires-2 c κs = search needs
+
+returns-2 : tie.Need-returns-2
+returns-2 c =
+    c .refused2 .ensures ∙ code-none _ _ (told-yes (c .before .before .before .whole-rows .ensures) (c .before .before .if1 .left)) (c .before .if2 .taken)
+
+refused-requires-3 : tie.Need-refused-requires-3
+refused-requires-3 c κs = search needs
+
+returns-3 : tie.Need-returns-3
+returns-3 c =
+    let k = c .before .before .before in
+    c .refused3 .ensures
+    ∙ code-long _ _ (told-yes (k .before .whole-rows .ensures) (k .if1 .left)) (c .before .before .if2 .left) (c .before .if3 .taken)
+
+passed-requires : tie.Need-passed-requires
+passed-requires c κs = search needs
+
+returns-4 : tie.Need-returns-4
+returns-4 c =
+    let k = c .before .before .before in
+    c .passed .ensures
+    ∙ code-lengths-pass _ _ (told-yes (k .before .whole-rows .ensures) (k .if1 .left)) (c .before .before .if2 .left) (c .before .if3 .left)
+
+pub code-lengths-spec : {M : Type 1} → statement M
+code-lengths-spec =
+    tie.close
+    (tie.spec
+    whole-rows-requires
+    refused-requires
+    returns
+    refused-requires-2
+    returns-2
+    refused-requires-3
+    returns-3
+    passed-requires
+    returns-4)

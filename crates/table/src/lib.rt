@@ -1,0 +1,184 @@
+// The tables: rows, lengths (Q1), field counts, type words and tags (Q2 to Q4), block lengths and annotations (Q5, Q6).
+ghost use mathlib.Core.Path.{_≡_};
+ghost use mathlib.Core.List.{List};
+ghost use Prim.Native.Nat.{ℕ, _+_, _*_, _≤_, _<_};
+ghost use lib.ListN.{length, getD};
+ghost use lib.Dec.{ltb, leb, eqb};
+ghost use Rattle.model.specs.Question.{_and_, pick, every, firstNo, passed, verdictOf};
+ghost use Rattle.model.specs.Table.{rowOf, rows, headOf, wordsOf, tablesOf, routineOf, startOf};
+ghost use Rattle.model.specs.Table.{wholeRows, typeLengthsAsk, codeLengthsAsk, countAsk};
+ghost use Rattle.model.specs.Table.{usesRecord, dependency, wellMade, fieldsAsk, tagAsk, typesAsk};
+ghost use Rattle.model.specs.Table.{lengthsAsk, annotationsAsk};
+use model::Verdict;
+
+// Record types: 1 to 64 rows; tags: 0 to 64 words.
+const MOST_TYPES: usize = 64;
+
+const MOST_TAGS: usize = 64;
+// A record has 1 to 8 fields.
+const MOST_FIELDS: u32 = 8;
+// Blocks: 1 to 256 rows of length 1 to 32; code: 1 to 8,192 instructions.
+const MOST_BLOCKS: usize = 256;
+
+const LONGEST_BLOCK: u32 = 32;
+
+const MOST_CODE: usize = 8192;
+
+// The numbers of the questions.
+const LENGTHS: u32 = 1;
+
+const FIELD_COUNT: u32 = 2;
+
+const TYPE_WORD: u32 = 3;
+
+const TAG: u32 = 4;
+
+const BLOCK_LENGTH: u32 = 5;
+
+const ANNOTATION: u32 = 6;
+
+fn passed() -> Verdict
+    ensures { λ r. ⌜ r ≡ passed ⌝ }
+{
+    Verdict {
+        number: 0,
+        first: 0,
+        second: 0,
+    }
+}
+
+fn refused(number: u32, row: usize) -> Verdict
+    requires { ⌜ row ≤ 256 ⌝ }
+    ensures { λ r. ⌜ r ≡ record { number = number; first = row; second = 0 } ⌝ }
+{
+    Verdict {
+        number: number,
+        first: row as u32,
+        second: 0,
+    }
+}
+
+// ---- rows
+
+// Row k, as a part of the table.
+pub fn row(table: &[u32], k: usize) -> &[u32]
+    requires { ⌜ k * 9 + 9 ≤ length (now table) ⌝ }
+    ensures { λ r. ⌜ now r ≡ rowOf (now (table .entry)) k ⌝ }
+{
+    let at = k * 9;
+    let end = at + 9;
+    &table[at..end]
+}
+
+// The number of row k: a field count, or a block's length.
+pub fn head(table: &[u32], k: usize) -> u32
+    requires { ⌜ k * 9 + 9 ≤ length (now table) ⌝ }
+    ensures { λ r. ⌜ r ≡ headOf (now (table .entry)) k ⌝ }
+{
+    let own = row(table, k);
+    own[0]
+}
+
+// Type word j of row k.
+pub fn type_word(table: &[u32], k: usize, j: usize) -> u32
+    requires { ⌜ (k * 9 + 9 ≤ length (now table)) × (j < 8) ⌝ }
+    ensures { λ r. ⌜ r ≡ getD (wordsOf (now (table .entry)) k) j 0 ⌝ }
+{
+    let own = row(table, k);
+    own[j + 1]
+}
+
+// ---- Q1
+
+fn whole_rows(most: usize, n: usize) -> bool
+    requires { ⌜ most ≤ 256 ⌝ }
+    ensures { λ r. ⌜ r ≡ wholeRows most n ⌝ }
+{
+    if n % 9 != 0 {
+        return false;
+    }
+    if n < 9 {
+        return false;
+    }
+    n <= 9 * most
+}
+
+pub fn type_lengths(types: usize, tags: usize) -> Verdict
+    ensures { λ r. ⌜ r ≡ verdictOf (typeLengthsAsk types tags) ⌝ }
+{
+    if !whole_rows(MOST_TYPES, types) {
+        return refused(LENGTHS, 0);
+    }
+    if MOST_TAGS < tags {
+        return refused(LENGTHS, 1);
+    }
+    passed()
+}
+
+pub fn code_lengths(blocks: usize, code: usize) -> Verdict
+    ensures { λ r. ⌜ r ≡ verdictOf (codeLengthsAsk blocks code) ⌝ }
+{
+    if !whole_rows(MOST_BLOCKS, blocks) {
+        return refused(LENGTHS, 2);
+    }
+    if code < 1 {
+        return refused(LENGTHS, 3);
+    }
+    if MOST_CODE < code {
+        return refused(LENGTHS, 3);
+    }
+    passed()
+}
+
+// ---- type words
+
+fn uses_record(kind: u32) -> bool
+    ensures { λ r. ⌜ r ≡ usesRecord kind ⌝ }
+{
+    if kind == 1 {
+        return true;
+    }
+    if kind == 2 {
+        return true;
+    }
+    6 <= kind
+}
+
+fn record_well(count: u32, kind: u32, t: u32) -> bool
+    ensures { λ r. ⌜ r ≡ pick (usesRecord kind) (ltb t count) (eqb t 0) ⌝ }
+{
+    if uses_record(kind) {
+        return t < count;
+    }
+    t == 0
+}
+
+// A dependency byte x of a kind that uses it is a name below n or a constant; of another kind it is zero.
+fn dependency_well(used: bool, n: u32, x: u32) -> bool
+    ensures { λ r. ⌜ r ≡ pick used (dependency n x) (eqb x 0) ⌝ }
+{
+    if !used {
+        return x == 0;
+    }
+    if x < n {
+        return true;
+    }
+    8 <= x
+}
+
+// Whether w is a type word over count record types and n names.
+pub fn well_made(count: u32, n: u32, w: u32) -> bool
+    ensures { λ r. ⌜ r ≡ wellMade count n w ⌝ }
+{
+    let kind = word::kind(w);
+    if 8 < kind {
+        return false;
+    }
+    if !record_well(count, kind, word::record_type(w)) {
+        return false;
+    }
+    if !dependency_well(3 <= kind, n, word::first_dependency(w)) {
+        return false;
+    }
+    dependency_well(6 <= kind, n, word::second_dependency(w))
+}
