@@ -1,16 +1,25 @@
 -- One law for each way out of a function.
 use mathlib.Core.Path.{_≡_, refl, ap, sym, _∙_}
+use mathlib.Core.Logic.{⊎-elim}
 use mathlib.Core.Bool.{Bool, true, false}
 use mathlib.Core.List.{List}
-use Prim.Native.Nat.{ℕ, zero, suc, _+_, _*_, _/_, _%_, _<_, _≤_}
+use Prim.Native.Nat.{ℕ, zero, suc, _+_, _*_, _/_, _%_, _-_, _<_, _≤_}
+use native.Mathlib.Nat.{eq-or-lt-of-le, sub-self, sub-zero}
+use native.Mathlib.Numerals.{add-one}
 use native.Mathlib.Omega.{arith}
 use lib.Dec.{ltb, leb, eqb}
-use borrow.Author.Tests.{lt-ltb, le-ltb, le-leb, lt-leb, eq-eqb, ne-eqb}
+use lib.ListN.{length, getD, set, length-set}
+use lib.Seq.{getD-set-same, getD-set-other}
+use borrow.Author.Tests.{leb-true, lt-ltb, le-ltb, le-leb, lt-leb, eq-eqb, ne-eqb}
 use Rattle.model.specs.declared.Verdict.{Verdict}
-use Rattle.model.specs.Question.{_and_, _or_, pick, ask, q1, refusal, passed, refusing, verdictOf}
+use Rattle.model.specs.Question.{_and_, _or_, pick, ask, every, firstNo, q1, q2, q3, q4, q5, q6, refusal, Outcome, ok, refused, passed, refusing, verdictOf}
 use Rattle.model.specs.Word.{kindOf, recordOf, firstOf, secondOf}
 use Rattle.model.specs.Table.{wholeRows, typeLengthsAsk, codeLengthsAsk}
-use Rattle.model.specs.Table.{usesRecord, dependency, wellMade}
+use Rattle.model.specs.Table.{usesRecord, dependency, wellMade, headOf, wordsOf, rows, tablesOf, countAsk, fieldWell, fieldsAsk, tagAsk, typesAsk}
+use Rattle.model.specs.Table.{startOf, routineOf, blocksAsk, lengthsAsk, annotationWell, annotationAsk, annotationsAsk}
+use Rattle.table.specs.Row.{placeWell}
+use Rattle.table.proofs.Laws.{start-none, start-more}
+use Rattle.table.proofs.Questions.{and-left, and-right, left, then-on, then-stops}
 
 -- ---- Q1
 
@@ -109,3 +118,153 @@ module _ (count n w k : ℕ) (ek : k ≡ kindOf w) where
       pub well-second : dependencyPart (leb 3 k) n x ≡ true → (y : ℕ) → y ≡ secondOf w → dependencyPart (leb 6 k) n y ≡ wellMade count n w
       unfolding wellMade _and_
       well-second l y ey = rw (← ek, ← et, ← ex, ← ey, le-leb k 8 h, e, l)
+
+pub place-is : (count n : ℕ) (words : List ℕ) (f w : ℕ) → w ≡ getD words f 0 → pick (ltb f n) (wellMade count n w) (eqb w 0) ≡ placeWell count n words f
+unfolding placeWell
+place-is count n words f w e = rw e
+
+-- ---- Q2 to Q4, of one row
+
+module _ (types tags : List ℕ) (t n : ℕ) (e : n ≡ headOf types t) where
+  pub count-yes : 1 ≤ n → n ≤ 8 → countAsk (tablesOf types tags) t ≡ ok tt
+  unfolding countAsk tablesOf ask _and_
+  count-yes l m = rw (← e, le-leb 1 n l, le-leb n 8 m)
+
+  pub count-none : n < 1 → countAsk (tablesOf types tags) t ≡ refused (refusal q2 t 0)
+  unfolding countAsk tablesOf ask _and_
+  count-none l = rw (← e, lt-leb 1 n l)
+
+  pub count-many : 1 ≤ n → 8 < n → countAsk (tablesOf types tags) t ≡ refused (refusal q2 t 0)
+  unfolding countAsk tablesOf ask _and_
+  count-many l m = rw (← e, le-leb 1 n l, lt-leb n 8 m)
+
+  fields-are : every 8 0 (placeWell (rows types) n (wordsOf types t)) ≡ every 8 0 (fieldWell (tablesOf types tags) t)
+  unfolding placeWell fieldWell tablesOf every
+  fields-are = rw e
+
+  pub fields-yes : every 8 0 (placeWell (rows types) n (wordsOf types t)) ≡ true → fieldsAsk (tablesOf types tags) t ≡ ok tt
+  unfolding fieldsAsk ask
+  fields-yes h = rw (← fields-are, h)
+
+  pub fields-no : every 8 0 (placeWell (rows types) n (wordsOf types t)) ≡ false → fieldsAsk (tablesOf types tags) t ≡ refused (refusal q3 t 0)
+  unfolding fieldsAsk ask
+  fields-no h = rw (← fields-are, h)
+
+module _ (types tags : List ℕ) (k : ℕ) where
+  pub tag-yes : getD tags k 0 < rows types → tagAsk (tablesOf types tags) k ≡ ok tt
+  unfolding tagAsk tablesOf ask
+  tag-yes h = rw (lt-ltb (getD tags k 0) (rows types) h)
+
+  pub tag-no : rows types ≤ getD tags k 0 → tagAsk (tablesOf types tags) k ≡ refused (refusal q4 k 0)
+  unfolding tagAsk tablesOf ask
+  tag-no h = rw (le-ltb (getD tags k 0) (rows types) h)
+
+-- ---- Q2 to Q4, in order
+
+module _ (types tags : List ℕ) (v : Verdict) (e : v ≡ verdictOf (firstNo (rows types) 0 (countAsk (tablesOf types tags)))) where
+  pub types-stop-counts : (v .number ≡ 0 → ⊥) → v ≡ verdictOf (typesAsk (tablesOf types tags))
+  unfolding typesAsk tablesOf
+  types-stop-counts h = then-stops (firstNo (rows types) 0 (countAsk (tablesOf types tags))) _ v e h
+
+  module _ (z : v .number ≡ 0) (u : Verdict) (d : u ≡ verdictOf (firstNo (rows types) 0 (fieldsAsk (tablesOf types tags)))) where
+    pub types-stop-words : (u .number ≡ 0 → ⊥) → u ≡ verdictOf (typesAsk (tablesOf types tags))
+    unfolding typesAsk tablesOf
+    types-stop-words h =
+        then-stops (firstNo (rows types) 0 (fieldsAsk (tablesOf types tags))) _ u d h
+        ∙ sym (then-on (firstNo (rows types) 0 (countAsk (tablesOf types tags))) _ v e z)
+
+    pub types-to-tags : u .number ≡ 0 → verdictOf (firstNo (length tags) 0 (tagAsk (tablesOf types tags))) ≡ verdictOf (typesAsk (tablesOf types tags))
+    unfolding typesAsk tablesOf
+    types-to-tags y =
+        sym (then-on (firstNo (rows types) 0 (fieldsAsk (tablesOf types tags))) _ u d y)
+        ∙ sym (then-on (firstNo (rows types) 0 (countAsk (tablesOf types tags))) _ v e z)
+
+-- ---- Q5
+
+abbrev lengthWell : ℕ → ℕ → ℕ → Bool
+lengthWell n i total = leb 1 n and leb n 32 and leb (i + n) total
+
+module _ (n i total : ℕ) where
+  pub length-none : n < 1 → false ≡ lengthWell n i total
+  unfolding _and_
+  length-none h = rw (lt-leb 1 n h)
+
+  pub length-long : 1 ≤ n → 32 < n → false ≡ lengthWell n i total
+  unfolding _and_
+  length-long h l = rw (le-leb 1 n h, lt-leb n 32 l)
+
+  pub length-inside : 1 ≤ n → n ≤ 32 → leb (i + n) total ≡ lengthWell n i total
+  unfolding _and_
+  length-inside h l = rw (le-leb 1 n h, le-leb n 32 l)
+
+  pub length-facts : lengthWell n i total ≡ true → (1 ≤ n) × (n ≤ 32) × (i + n ≤ total)
+  length-facts h =
+      let more = and-right (leb 1 n) (leb n 32 and leb (i + n) total) h in (
+        leb-true 1 n (and-left (leb 1 n) _ h),
+        leb-true n 32 (and-left (leb n 32) _ more),
+        leb-true (i + n) total (and-right (leb n 32) (leb (i + n) total) more),
+      )
+
+pub lengths-start : (blocks code : List ℕ) → lengthsAsk (routineOf blocks code) ≡ blocksAsk (routineOf blocks code) (rows blocks - 0) 0 0
+unfolding lengthsAsk routineOf
+lengths-start blocks code = rw sub-zero
+
+-- whole is what the blocks from b on, at code index i, come to
+module _ (blocks code : List ℕ) (b i : ℕ) (whole : Outcome (Unit {0})) (e : whole ≡ blocksAsk (routineOf blocks code) (rows blocks - b) b i) where
+  module _ (h : b < rows blocks) (n : ℕ) (en : n ≡ headOf blocks b) where
+    pub lengths-on : lengthWell n i (length code) ≡ true → whole ≡ blocksAsk (routineOf blocks code) (rows blocks - (b + 1)) (b + 1) (i + n)
+    unfolding blocksAsk routineOf ask
+    lengths-on l = rw (e, left (rows blocks) b h, ← en, l, add-one b)
+
+    pub lengths-stop : lengthWell n i (length code) ≡ false → refusing (refusal q5 b 0) ≡ verdictOf whole
+    unfolding blocksAsk routineOf ask verdictOf
+    lengths-stop l = rw (e, left (rows blocks) b h, ← en, l)
+
+  module _ (h : b ≡ rows blocks) where
+    pub lengths-short : (i ≡ length code → ⊥) → refusing (refusal q5 (rows blocks) 0) ≡ verdictOf whole
+    unfolding blocksAsk routineOf ask verdictOf
+    lengths-short l = rw (e, h, sub-self, ne-eqb i (length code) l)
+
+    pub lengths-pass : i ≡ length code → passed ≡ verdictOf whole
+    unfolding blocksAsk routineOf ask verdictOf
+    lengths-pass l = rw (e, h, sub-self, eq-eqb i (length code) l)
+
+-- starts has where blocks 0 to b start
+abbrev pub Filled : List ℕ → List ℕ → ℕ → Type 0
+Filled blocks starts b = length starts ≡ 257 → (k : ℕ) → k ≤ b → getD starts k 0 ≡ startOf blocks k
+
+module _ (blocks starts : List ℕ) where
+  pub filled-none : Filled blocks (set starts 0 0) 0
+  filled-none e k h =
+      let z : k ≡ 0 = omega arith in
+      rw z (getD-set-same starts 0 0 0 (omega (arith, length-set starts 0 0)) ∙ sym (start-none blocks))
+
+  module _ (b v : ℕ) (f : Filled blocks starts b) (l : b + 1 < 257) (ev : v ≡ startOf blocks (b + 1)) where
+    pub filled-more : Filled blocks (set starts (b + 1) v) (b + 1)
+    filled-more e k h =
+        ⊎-elim
+        (λ (z : k ≡ b + 1). rw z (getD-set-same starts (b + 1) v 0 (omega (arith, length-set starts (b + 1) v)) ∙ ev))
+        (λ (m : k < b + 1). getD-set-other starts (b + 1) k v 0 (λ (z : k ≡ b + 1). omega arith) ∙ f (sym (length-set starts (b + 1) v) ∙ e) k (omega arith))
+        (eq-or-lt-of-le h)
+
+-- ---- Q6
+
+module _ (types tags blocks code : List ℕ) (b count : ℕ) (e : count ≡ rows types) where
+  annotation-is : every 8 0 (placeWell count 8 (wordsOf blocks b)) ≡ every 8 0 (λ r. annotationWell (rows types) (getD (wordsOf blocks b) r 0))
+  unfolding placeWell annotationWell every
+  annotation-is = rw e
+
+  pub annotation-yes : every 8 0 (placeWell count 8 (wordsOf blocks b)) ≡ true
+      → annotationAsk (tablesOf types tags) (routineOf blocks code) b ≡ ok tt
+  unfolding annotationAsk tablesOf routineOf ask
+  annotation-yes h = rw (← annotation-is, h)
+
+  pub annotation-no : every 8 0 (placeWell count 8 (wordsOf blocks b)) ≡ false
+      → annotationAsk (tablesOf types tags) (routineOf blocks code) b ≡ refused (refusal q6 b 0)
+  unfolding annotationAsk tablesOf routineOf ask
+  annotation-no h = rw (← annotation-is, h)
+
+pub annotations-are : (types tags blocks code : List ℕ)
+    → firstNo (rows blocks) 0 (annotationAsk (tablesOf types tags) (routineOf blocks code)) ≡ annotationsAsk (tablesOf types tags) (routineOf blocks code)
+unfolding annotationsAsk routineOf
+annotations-are types tags blocks code = refl

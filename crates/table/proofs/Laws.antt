@@ -3,10 +3,11 @@ use mathlib.Core.Path.{_≡_, refl, ap, sym, _∙_}
 use mathlib.Core.Bool.{Bool, true, false}
 use mathlib.Core.List.{List}
 use Prim.Native.Nat.{ℕ, zero, suc, _+_, _*_, _/_, _%_, _<_, _≤_}
+use native.Mathlib.Numerals.{add-one}
 use native.Mathlib.Omega.{arith}
 use lib.ListN.{length, take, drop, getD, length-take, length-drop}
 use lib.Seq.{getD-take, getD-drop}
-use Rattle.model.specs.Table.{rowOf, rows, headOf, wordsOf}
+use Rattle.model.specs.Table.{rowOf, rows, headOf, wordsOf, startOf}
 
 -- ---- rows
 
@@ -33,3 +34,14 @@ module _ (table : List ℕ) (k : ℕ) where
 -- a row below the count lies in the table
 pub row-inside : (n k : ℕ) → k < n / 9 → k * 9 + 9 ≤ n
 row-inside n k h = omega arith
+
+-- ---- where a block starts
+
+module _ (blocks : List ℕ) where
+  pub start-none : startOf blocks 0 ≡ 0
+  unfolding startOf
+  start-none = refl
+
+  pub start-more : (b : ℕ) → startOf blocks (b + 1) ≡ startOf blocks b + headOf blocks b
+  unfolding startOf
+  start-more b = rw add-one

@@ -2,7 +2,7 @@
 use mathlib.Core.Path.{_≡_, refl, ap, sym, _∙_, subst}
 use mathlib.Core.Bool.{Bool, true, false, not}
 use Prim.Native.Nat.{ℕ, zero, suc, _+_, _-_, _<_, _≤_}
-use native.Mathlib.Nat.{add-zero, add-suc, suc-add, sub-eq-zero-of-le}
+use native.Mathlib.Nat.{add-zero, add-suc, suc-add, sub-zero, sub-eq-zero-of-le}
 use native.Mathlib.Numerals.{add-one}
 use native.Mathlib.Omega.{arith}
 use borrow.Author.Tests.{not-true, not-false}
@@ -36,21 +36,22 @@ pub pick-no : {A : Type 0} (a : Bool) (x y : A) → a ≡ false → y ≡ pick a
 pick-no a x y e = rw e
 
 -- one less is left after each step
-left : (n i : ℕ) → i < n → n - i ≡ suc (n - (i + 1))
+pub left : (n i : ℕ) → i < n → n - i ≡ suc (n - (i + 1))
 left n i h = omega arith
 
-module _ (f : ℕ → Bool) (n i : ℕ) where
-  pub every-on : i < n → f i ≡ true → every (n - i) i f ≡ every (n - (i + 1)) (i + 1) f
+-- whole is what the tests from i on come to
+module _ (f : ℕ → Bool) (n i : ℕ) (whole : Bool) (e : whole ≡ every (n - i) i f) where
+  pub every-on : i < n → f i ≡ true → whole ≡ every (n - (i + 1)) (i + 1) f
   unfolding every _and_
-  every-on h e = rw (left n i h, e, add-one i)
+  every-on h l = rw (e, left n i h, l, add-one i)
 
-  pub every-stops : i < n → f i ≡ false → every (n - i) i f ≡ false
+  pub every-stops : i < n → f i ≡ false → false ≡ whole
   unfolding every _and_
-  every-stops h e = rw (left n i h, e)
+  every-stops h l = rw (e, left n i h, l)
 
-  pub every-end : n ≤ i → every (n - i) i f ≡ true
+  pub every-end : n ≤ i → true ≡ whole
   unfolding every
-  every-end h = rw (sub-eq-zero-of-le h)
+  every-end h = rw (e, sub-eq-zero-of-le h)
 
 pub every-all : (n i : ℕ) (f : ℕ → Bool) → every n i f ≡ true → (k : ℕ) → k < n → f (i + k) ≡ true
 unfolding every
@@ -126,18 +127,22 @@ then-next (refused r) k e = cc
 
 -- ---- the same question of each row
 
-module _ (f : ℕ → Outcome (Unit {0})) (n t : ℕ) where
-  pub first-on : t < n → f t ≡ ok tt → firstNo (n - t) t f ≡ firstNo (n - (t + 1)) (t + 1) f
-  unfolding firstNo then
-  first-on h e = rw (left n t h, e, add-one t)
+pub first-start : (f : ℕ → Outcome (Unit {0})) (n : ℕ) → firstNo n 0 f ≡ firstNo (n - 0) 0 f
+first-start f n = rw sub-zero
 
-  pub first-stops : t < n → (r : Refusal) → f t ≡ refused r → firstNo (n - t) t f ≡ refused r
+-- whole is what the rows from t on come to
+module _ (f : ℕ → Outcome (Unit {0})) (n t : ℕ) (whole : Outcome (Unit {0})) (e : whole ≡ firstNo (n - t) t f) where
+  pub first-on : t < n → f t ≡ ok tt → whole ≡ firstNo (n - (t + 1)) (t + 1) f
   unfolding firstNo then
-  first-stops h r e = rw (left n t h, e)
+  first-on h l = rw (e, left n t h, l, add-one t)
 
-  pub first-end : n ≤ t → firstNo (n - t) t f ≡ ok tt
-  unfolding firstNo
-  first-end h = rw (sub-eq-zero-of-le h)
+  pub first-stops : t < n → (r : Refusal) → f t ≡ refused r → refusing r ≡ verdictOf whole
+  unfolding firstNo then verdictOf
+  first-stops h r l = rw (e, left n t h, l)
+
+  pub first-end : n ≤ t → passed ≡ verdictOf whole
+  unfolding firstNo verdictOf
+  first-end h = rw (e, sub-eq-zero-of-le h)
 
 pub first-all : (n i : ℕ) (f : ℕ → Outcome (Unit {0})) → firstNo n i f ≡ ok tt → (k : ℕ) → k < n → f (i + k) ≡ ok tt
 unfolding firstNo

@@ -9,6 +9,7 @@ ghost use Rattle.model.specs.Table.{rowOf, rows, headOf, wordsOf, tablesOf, rou
 ghost use Rattle.model.specs.Table.{wholeRows, typeLengthsAsk, codeLengthsAsk, countAsk};
 ghost use Rattle.model.specs.Table.{usesRecord, dependency, wellMade, fieldsAsk, tagAsk, typesAsk};
 ghost use Rattle.model.specs.Table.{lengthsAsk, annotationsAsk};
+ghost use Rattle.table.specs.Row.{placeWell};
 use model::Verdict;
 
 // Record types: 1 to 64 rows; tags: 0 to 64 words.
@@ -181,4 +182,159 @@ pub fn well_made(count: u32, n: u32, w: u32) -> bool
         return false;
     }
     dependency_well(6 <= kind, n, word::second_dependency(w))
+}
+
+// Whether word w of place f is well made, or zero past the n places in use.
+fn place_well(count: u32, n: u32, f: usize, w: u32) -> bool
+    ensures { λ r. ⌜ r ≡ pick (ltb f n) (wellMade count n w) (eqb w 0) ⌝ }
+{
+    if f < (n as usize) {
+        return well_made(count, n, w);
+    }
+    w == 0
+}
+
+// Whether the eight type words of row k are well made.
+fn words_well(table: &[u32], k: usize, count: u32, n: u32) -> bool
+    requires { ⌜ k * 9 + 9 ≤ length (now table) ⌝ }
+    ensures { λ r. ⌜ r ≡ every 8 0 (placeWell count n (wordsOf (now (table .entry)) k)) ⌝ }
+{
+    let mut f = 0;
+    while f < 8 {
+        if !place_well(count, n, f, type_word(table, k, f)) {
+            return false;
+        }
+        f += 1;
+    }
+    true
+}
+
+// ---- Q2 to Q4
+
+// Q2. Tags have no part in it, nor in Q3.
+fn field_counts(types: &[u32]) -> Verdict
+    requires { ⌜ length (now types) ≤ 576 ⌝ }
+    ensures { λ r. ⌜ ((tags : List ℕ) → r ≡ verdictOf (firstNo (rows (now (types .entry))) 0 (countAsk (tablesOf (now (types .entry)) tags)))) ⌝ }
+{
+    let count = types.len() / 9;
+    let mut t = 0;
+    while t < count {
+        let n = head(types, t);
+        if n < 1 {
+            return refused(FIELD_COUNT, t);
+        }
+        if MOST_FIELDS < n {
+            return refused(FIELD_COUNT, t);
+        }
+        t += 1;
+    }
+    passed()
+}
+
+// Q3.
+fn field_words(types: &[u32]) -> Verdict
+    requires { ⌜ length (now types) ≤ 576 ⌝ }
+    ensures { λ r. ⌜ ((tags : List ℕ) → r ≡ verdictOf (firstNo (rows (now (types .entry))) 0 (fieldsAsk (tablesOf (now (types .entry)) tags)))) ⌝ }
+{
+    let count = types.len() / 9;
+    let mut t = 0;
+    while t < count {
+        if !words_well(types, t, count as u32, head(types, t)) {
+            return refused(TYPE_WORD, t);
+        }
+        t += 1;
+    }
+    passed()
+}
+
+// Q4.
+fn tag_types(types: &[u32], tags: &[u32]) -> Verdict
+    requires { ⌜ (length (now types) ≤ 576) × (length (now tags) ≤ 64) ⌝ }
+    ensures { λ r. ⌜ r ≡ verdictOf (firstNo (length (now (tags .entry))) 0 (tagAsk (tablesOf (now (types .entry)) (now (tags .entry))))) ⌝ }
+{
+    let count = (types.len() / 9) as u32;
+    let mut k = 0;
+    while k < tags.len() {
+        if count <= tags[k] {
+            return refused(TAG, k);
+        }
+        k += 1;
+    }
+    passed()
+}
+
+// Q2 to Q4, each over all rows before the next.
+pub fn types(types: &[u32], tags: &[u32]) -> Verdict
+    requires { ⌜ (length (now types) ≤ 576) × (length (now tags) ≤ 64) ⌝ }
+    ensures { λ r. ⌜ r ≡ verdictOf (typesAsk (tablesOf (now (types .entry)) (now (tags .entry)))) ⌝ }
+{
+    let counts = field_counts(types);
+    if counts.number != 0 {
+        return counts;
+    }
+    let words = field_words(types);
+    if words.number != 0 {
+        return words;
+    }
+    tag_types(types, tags)
+}
+
+// ---- Q5 and Q6
+
+// Whether a block of n instructions from code index i on is in range and inside the code.
+fn length_well(n: u32, i: u32, total: u32) -> bool
+    requires { ⌜ i ≤ 8192 ⌝ }
+    ensures { λ r. ⌜ r ≡ (leb 1 n and leb n 32 and leb (i + n) total) ⌝ }
+{
+    if n < 1 {
+        return false;
+    }
+    if LONGEST_BLOCK < n {
+        return false;
+    }
+    i + n <= total
+}
+
+// Q5. Where it passes, starts has the code index at which each block starts, and the code's length after the last.
+pub fn lengths(blocks: &[u32], code: &[u32], starts: &mut [u32; 257]) -> Verdict
+    requires { ⌜ (length (now blocks) ≤ 2304) × (length (now code) ≤ 8192) ⌝ }
+    ensures verdict { λ r. ⌜ r ≡ verdictOf (lengthsAsk (routineOf (now (blocks .entry)) (now (code .entry)))) ⌝ }
+    ensures filled { λ r. ⌜ (length (now (starts .entry)) ≡ 257 → r .number ≡ 0
+        → (b : ℕ) → b ≤ rows (now (blocks .entry)) → getD (now (starts .exit)) b 0 ≡ startOf (now (blocks .entry)) b) ⌝ }
+{
+    let count = blocks.len() / 9;
+    let total = code.len() as u32;
+    starts[0] = 0;
+    let mut i = 0;
+    let mut b = 0;
+    while b < count {
+        let n = head(blocks, b);
+        if !length_well(n, i, total) {
+            return refused(BLOCK_LENGTH, b);
+        }
+        i += n;
+        b += 1;
+        starts[b] = i;
+    }
+    if i != total {
+        return refused(BLOCK_LENGTH, count);
+    }
+    passed()
+}
+
+// Q6, over count record types.
+pub fn annotations(count: u32, blocks: &[u32]) -> Verdict
+    requires { ⌜ length (now blocks) ≤ 2304 ⌝ }
+    ensures { λ r. ⌜ ((types tags code : List ℕ) → count ≡ rows types
+        → r ≡ verdictOf (annotationsAsk (tablesOf types tags) (routineOf (now (blocks .entry)) code))) ⌝ }
+{
+    let total = blocks.len() / 9;
+    let mut b = 0;
+    while b < total {
+        if !words_well(blocks, b, count, 8) {
+            return refused(ANNOTATION, b);
+        }
+        b += 1;
+    }
+    passed()
 }

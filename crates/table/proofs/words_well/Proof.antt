@@ -1,0 +1,66 @@
+-- `table::words_well` meets its contract. The invariant: the words from place f on come to what all come to.
+use mathlib.Core.Path.{_≡_, refl, _∙_}
+use Prim.Native.Nat.{_≤_, _-_}
+use native.Mathlib.Omega.{arith}
+use denote.Ref.{now}
+use Rattle.model.specs.Question.{every}
+use Rattle.model.specs.Table.{wordsOf}
+use Rattle.table.specs.Row.{placeWell}
+use Rattle.table.proofs.Questions.{told-no, told-yes, every-on, every-stops, every-end}
+use Rattle.table.proofs.Answers.{place-is}
+use Rattle.table.proofs.words_well.Statement.{statement}
+use Rattle.table.proofs.words_well.Tie as tie
+
+abbrev Inv-loop : tie.InvT-loop
+Inv-loop table k count n f₀ f =
+    (every 8 0 (placeWell count n (wordsOf table k)) ≡ every (8 - f) f (placeWell count n (wordsOf table k))) × (f ≤ 8)
+
+abbrev μ-loop : tie.MeasureT-loop
+μ-loop table k count n f₀ f = 8 - f
+
+loop-holds : tie.Need-loop-holds Inv-loop μ-loop
+loop-holds c = (refl, omega arith)
+
+type-word-requires : tie.Need-type-word-requires Inv-loop μ-loop
+type-word-requires c κs = omega arith
+
+place-well-requires : tie.Need-place-well-requires Inv-loop μ-loop
+place-well-requires c κs = tt
+
+returns : tie.Need-returns Inv-loop μ-loop
+returns c =
+    let l = c .before .before .before .before .loop in
+    every-stops _ 8 (l .f) _ (l .inv .0) (omega arith)
+    (told-no (c .before .place-well .ensures ∙ place-is _ _ _ _ _ (c .before .before .type-word .ensures)) (c .if1 .taken))
+
+add-f : tie.Need-add-f Inv-loop μ-loop
+add-f c = omega arith
+
+loop-less : tie.Need-loop-less Inv-loop μ-loop
+loop-less c = omega arith
+
+loop-again : tie.Need-loop-again Inv-loop μ-loop
+loop-again c =
+    let l = c .before .before .before .before .loop in (
+      every-on _ 8 (l .f) _ (l .inv .0) (omega arith)
+          (told-yes (c .before .place-well .ensures ∙ place-is _ _ _ _ _ (c .before .before .type-word .ensures)) (c .if1 .left)),
+      omega arith,
+    )
+
+returns-2 : tie.Need-returns-2 Inv-loop μ-loop
+returns-2 c = let l = c .before .loop in every-end _ 8 (l .f) _ (l .inv .0) (omega arith)
+
+pub words-well-spec : {M : Type 1} → statement M
+words-well-spec =
+    tie.close
+    (tie.spec
+    Inv-loop
+    μ-loop
+    loop-holds
+    type-word-requires
+    place-well-requires
+    returns
+    add-f
+    loop-less
+    loop-again
+    returns-2)
