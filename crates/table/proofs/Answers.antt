@@ -1,25 +1,25 @@
 -- One law for each way out of a function.
-use mathlib.Core.Path.{_≡_, refl, ap, sym, _∙_}
+use mathlib.Core.Path.{_≡_, refl, sym, _∙_}
 use mathlib.Core.Logic.{⊎-elim}
 use mathlib.Core.Bool.{Bool, true, false}
 use mathlib.Core.List.{List}
-use Prim.Native.Nat.{ℕ, zero, suc, _+_, _*_, _/_, _%_, _-_, _<_, _≤_}
+use Prim.Native.Nat.{ℕ, _+_, _*_, _%_, _-_, _<_, _≤_}
 use native.Mathlib.Nat.{eq-or-lt-of-le, sub-self, sub-zero}
 use native.Mathlib.Numerals.{add-one}
 use native.Mathlib.Omega.{arith}
 use lib.Dec.{ltb, leb, eqb}
 use lib.ListN.{length, getD, set, length-set}
 use lib.Seq.{getD-set-same, getD-set-other}
-use borrow.Author.Tests.{leb-true, lt-ltb, le-ltb, le-leb, lt-leb, eq-eqb, ne-eqb}
+use borrow.Author.Tests.{lt-ltb, le-ltb, le-leb, lt-leb, eq-eqb, ne-eqb}
 use Rattle.model.specs.declared.Verdict.{Verdict}
 use Rattle.model.specs.Question.{_and_, _or_, pick, ask, every, firstNo, q1, q2, q3, q4, q5, q6, refusal, Outcome, ok, refused, passed, refusing, verdictOf}
 use Rattle.model.specs.Word.{kindOf, recordOf, firstOf, secondOf}
 use Rattle.model.specs.Table.{wholeRows, typeLengthsAsk, codeLengthsAsk}
-use Rattle.model.specs.Table.{usesRecord, dependency, wellMade, headOf, wordsOf, rows, tablesOf, countAsk, fieldWell, fieldsAsk, tagAsk, typesAsk}
+use Rattle.model.specs.Table.{wellMade, headOf, wordsOf, rows, tablesOf, countAsk, fieldWell, fieldsAsk, tagAsk, typesAsk}
 use Rattle.model.specs.Table.{startOf, routineOf, blocksAsk, lengthsAsk, annotationWell, annotationAsk, annotationsAsk}
 use Rattle.table.specs.Row.{placeWell}
-use Rattle.table.proofs.Laws.{start-none, start-more}
-use Rattle.table.proofs.Questions.{and-left, and-right, left, then-on, then-stops}
+use Rattle.table.proofs.Laws.{recordPart, dependencyPart, lengthWell, start-none}
+use Rattle.table.proofs.Questions.{left, then-on, then-stops}
 
 -- ---- Q1
 
@@ -67,26 +67,6 @@ module _ (blocks code : ℕ) where
   code-lengths-pass h l m = rw (h, le-leb 1 code l, le-leb code 8192 m)
 
 -- ---- type words
-
-module _ (kind : ℕ) where
-  pub uses-ref : kind ≡ 1 → true ≡ usesRecord kind
-  unfolding _or_
-  uses-ref e = rw e
-
-  pub uses-maybe : kind ≡ 2 → true ≡ usesRecord kind
-  unfolding _or_
-  uses-maybe e = rw e
-
-  pub uses-span : (kind ≡ 1 → ⊥) → (kind ≡ 2 → ⊥) → leb 6 kind ≡ usesRecord kind
-  unfolding _or_
-  uses-span h l = rw (ne-eqb kind 1 h, ne-eqb kind 2 l)
-
--- a record type, or a dependency byte, where a kind uses it and where not
-abbrev recordPart : ℕ → ℕ → ℕ → Bool
-recordPart count kind t = pick (usesRecord kind) (ltb t count) (eqb t 0)
-
-abbrev dependencyPart : Bool → ℕ → ℕ → Bool
-dependencyPart used n x = pick used (dependency n x) (eqb x 0)
 
 module _ (used : Bool) (n x : ℕ) where
   pub dependency-unused : used ≡ false → eqb x 0 ≡ dependencyPart used n x
@@ -181,9 +161,6 @@ module _ (types tags : List ℕ) (v : Verdict) (e : v ≡ verdictOf (firstNo (ro
 
 -- ---- Q5
 
-abbrev lengthWell : ℕ → ℕ → ℕ → Bool
-lengthWell n i total = leb 1 n and leb n 32 and leb (i + n) total
-
 module _ (n i total : ℕ) where
   pub length-none : n < 1 → false ≡ lengthWell n i total
   unfolding _and_
@@ -196,14 +173,6 @@ module _ (n i total : ℕ) where
   pub length-inside : 1 ≤ n → n ≤ 32 → leb (i + n) total ≡ lengthWell n i total
   unfolding _and_
   length-inside h l = rw (le-leb 1 n h, le-leb n 32 l)
-
-  pub length-facts : lengthWell n i total ≡ true → (1 ≤ n) × (n ≤ 32) × (i + n ≤ total)
-  length-facts h =
-      let more = and-right (leb 1 n) (leb n 32 and leb (i + n) total) h in (
-        leb-true 1 n (and-left (leb 1 n) _ h),
-        leb-true n 32 (and-left (leb n 32) _ more),
-        leb-true (i + n) total (and-right (leb n 32) (leb (i + n) total) more),
-      )
 
 pub lengths-start : (blocks code : List ℕ) → lengthsAsk (routineOf blocks code) ≡ blocksAsk (routineOf blocks code) (rows blocks - 0) 0 0
 unfolding lengthsAsk routineOf

@@ -1,5 +1,5 @@
 -- Laws of questions: what rows of questions come to one step on, at a no and at their end, and what holds where none had a no.
-use mathlib.Core.Path.{_≡_, refl, ap, sym, _∙_, subst}
+use mathlib.Core.Path.{_≡_, refl, ap, sym, _∙_}
 use mathlib.Core.Bool.{Bool, true, false, not}
 use Prim.Native.Nat.{ℕ, zero, suc, _+_, _-_, _<_, _≤_}
 use native.Mathlib.Nat.{add-zero, add-suc, suc-add, sub-zero, sub-eq-zero-of-le}
@@ -8,7 +8,7 @@ use native.Mathlib.Omega.{arith}
 use borrow.Author.Tests.{not-true, not-false}
 use Rattle.model.specs.declared.Verdict.{Verdict}
 use Rattle.model.specs.Question.{Question, q1, q2, q3, q4, q5, q6, q7, q8, q9, q10, q11, q12, q13, q14, q15, q16, q17, q18, q19, q20, q21, q22}
-use Rattle.model.specs.Question.{_and_, pick, every, numberOf, Refusal, refusal, Outcome, ok, refused, ask, asked, then, firstNo, passed, refusing, verdictOf}
+use Rattle.model.specs.Question.{_and_, _or_, pick, every, numberOf, Refusal, Outcome, ok, refused, ask, asked, then, firstNo, passed, refusing, verdictOf}
 
 -- ---- tests
 
@@ -21,6 +21,11 @@ pub and-right : (a b : Bool) → a and b ≡ true → b ≡ true
 unfolding _and_
 and-right true b h = h
 and-right false b h = cc
+
+pub or-left : (a b : Bool) → a or b ≡ true → (b ≡ true → ⊥) → a ≡ true
+unfolding _or_
+or-left true b h n = refl
+or-left false b h n = absurd (n h)
 
 -- what a callee's answer b tells of the test a that it stands for, past `if !b`
 pub told-no : {a b : Bool} → b ≡ a → not b ≡ true → a ≡ false
@@ -101,6 +106,16 @@ pub asked-yes : (b : Bool) (r : Refusal) → asked b r ≡ ok tt → b ≡ true
 unfolding ask
 asked-yes true r e = refl
 asked-yes false r e = cc
+
+pub ask-first : (b : Bool) (r : Refusal) (k : Unit {0} → Outcome (Unit {0})) → ask b r k ≡ ok tt → b ≡ true
+unfolding ask
+ask-first true r k e = refl
+ask-first false r k e = cc
+
+pub ask-next : (b : Bool) (r : Refusal) (k : Unit {0} → Outcome (Unit {0})) → ask b r k ≡ ok tt → k tt ≡ ok tt
+unfolding ask
+ask-next true r k e = e
+ask-next false r k e = cc
 
 stops : {B : Type 0} (o : Outcome (Unit {0})) (k : Unit {0} → Outcome B) → (verdictOf o .number ≡ 0 → ⊥) → verdictOf o ≡ verdictOf (then o k)
 unfolding verdictOf then

@@ -12,20 +12,43 @@ ghost use Rattle.model.specs.Table.{lengthsAsk, annotationsAsk};
 ghost use Rattle.table.specs.Row.{placeWell};
 use model::Verdict;
 
-// Record types: 1 to 64 rows; tags: 0 to 64 words.
+// Words of a row of the type or block table: a number and eight type words.
+const ROW_WORDS: usize = 9;
+
+const TYPE_WORDS: usize = 8;
+
+// The most rows or words that a table may have.
 const MOST_TYPES: usize = 64;
 
 const MOST_TAGS: usize = 64;
-// A record has 1 to 8 fields.
-const MOST_FIELDS: u32 = 8;
-// Blocks: 1 to 256 rows of length 1 to 32; code: 1 to 8,192 instructions.
-const MOST_BLOCKS: usize = 256;
 
-const LONGEST_BLOCK: u32 = 32;
+const MOST_BLOCKS: usize = 256;
 
 const MOST_CODE: usize = 8192;
 
-// The numbers of the questions.
+// The largest field count and the largest block length. Both start at 1.
+const MOST_FIELDS: u32 = 8;
+
+const LONGEST_BLOCK: u32 = 32;
+
+// The names in an annotation are the registers.
+const REGISTERS: u32 = 8;
+
+// Kinds of type words: from Tagged on they have a dependency, from Run on a record type and two dependencies; In is the last.
+const REF: u32 = 1;
+
+const MAYBE: u32 = 2;
+
+const TAGGED: u32 = 3;
+
+const RUN: u32 = 6;
+
+const IN: u32 = 8;
+
+// Dependency bytes from here on are constants.
+const CONSTANTS: u32 = 8;
+
+// The numbers of the questions Q1 to Q6.
 const LENGTHS: u32 = 1;
 
 const FIELD_COUNT: u32 = 2;
@@ -38,6 +61,8 @@ const BLOCK_LENGTH: u32 = 5;
 
 const ANNOTATION: u32 = 6;
 
+// ---- verdicts
+
 fn passed() -> Verdict
     ensures { λ r. ⌜ r ≡ passed ⌝ }
 {
@@ -48,6 +73,7 @@ fn passed() -> Verdict
     }
 }
 
+// A refusal at a row, or at a table.
 fn refused(number: u32, row: usize) -> Verdict
     requires { ⌜ row ≤ 256 ⌝ }
     ensures { λ r. ⌜ r ≡ record { number = number; first = row; second = 0 } ⌝ }
@@ -66,8 +92,8 @@ pub fn row(table: &[u32], k: usize) -> &[u32]
     requires { ⌜ k * 9 + 9 ≤ length (now table) ⌝ }
     ensures { λ r. ⌜ now r ≡ rowOf (now (table .entry)) k ⌝ }
 {
-    let at = k * 9;
-    let end = at + 9;
+    let at = k * ROW_WORDS;
+    let end = at + ROW_WORDS;
     &table[at..end]
 }
 
@@ -91,19 +117,21 @@ pub fn type_word(table: &[u32], k: usize, j: usize) -> u32
 
 // ---- Q1
 
+// Whether n words are whole rows, from one row to the most.
 fn whole_rows(most: usize, n: usize) -> bool
     requires { ⌜ most ≤ 256 ⌝ }
     ensures { λ r. ⌜ r ≡ wholeRows most n ⌝ }
 {
-    if n % 9 != 0 {
+    if n % ROW_WORDS != 0 {
         return false;
     }
-    if n < 9 {
+    if n < ROW_WORDS {
         return false;
     }
-    n <= 9 * most
+    n <= ROW_WORDS * most
 }
 
+// Q1 for the type table, 0, and the tag table, 1.
 pub fn type_lengths(types: usize, tags: usize) -> Verdict
     ensures { λ r. ⌜ r ≡ verdictOf (typeLengthsAsk types tags) ⌝ }
 {
@@ -116,6 +144,7 @@ pub fn type_lengths(types: usize, tags: usize) -> Verdict
     passed()
 }
 
+// Q1 for the block table, 2, and the code table, 3.
 pub fn code_lengths(blocks: usize, code: usize) -> Verdict
     ensures { λ r. ⌜ r ≡ verdictOf (codeLengthsAsk blocks code) ⌝ }
 {
@@ -136,15 +165,16 @@ pub fn code_lengths(blocks: usize, code: usize) -> Verdict
 fn uses_record(kind: u32) -> bool
     ensures { λ r. ⌜ r ≡ usesRecord kind ⌝ }
 {
-    if kind == 1 {
+    if kind == REF {
         return true;
     }
-    if kind == 2 {
+    if kind == MAYBE {
         return true;
     }
-    6 <= kind
+    RUN <= kind
 }
 
+// A record type t of a kind that uses it exists; of another kind it is zero.
 fn record_well(count: u32, kind: u32, t: u32) -> bool
     ensures { λ r. ⌜ r ≡ pick (usesRecord kind) (ltb t count) (eqb t 0) ⌝ }
 {
@@ -164,7 +194,7 @@ fn dependency_well(used: bool, n: u32, x: u32) -> bool
     if x < n {
         return true;
     }
-    8 <= x
+    CONSTANTS <= x
 }
 
 // Whether w is a type word over count record types and n names.
@@ -172,16 +202,16 @@ pub fn well_made(count: u32, n: u32, w: u32) -> bool
     ensures { λ r. ⌜ r ≡ wellMade count n w ⌝ }
 {
     let kind = word::kind(w);
-    if 8 < kind {
+    if IN < kind {
         return false;
     }
     if !record_well(count, kind, word::record_type(w)) {
         return false;
     }
-    if !dependency_well(3 <= kind, n, word::first_dependency(w)) {
+    if !dependency_well(TAGGED <= kind, n, word::first_dependency(w)) {
         return false;
     }
-    dependency_well(6 <= kind, n, word::second_dependency(w))
+    dependency_well(RUN <= kind, n, word::second_dependency(w))
 }
 
 // Whether word w of place f is well made, or zero past the n places in use.
@@ -200,7 +230,7 @@ fn words_well(table: &[u32], k: usize, count: u32, n: u32) -> bool
     ensures { λ r. ⌜ r ≡ every 8 0 (placeWell count n (wordsOf (now (table .entry)) k)) ⌝ }
 {
     let mut f = 0;
-    while f < 8 {
+    while f < TYPE_WORDS {
         if !place_well(count, n, f, type_word(table, k, f)) {
             return false;
         }
@@ -211,12 +241,12 @@ fn words_well(table: &[u32], k: usize, count: u32, n: u32) -> bool
 
 // ---- Q2 to Q4
 
-// Q2. Tags have no part in it, nor in Q3.
+// Q2. The contract holds for any tags: they have no part in Q2 and Q3.
 fn field_counts(types: &[u32]) -> Verdict
     requires { ⌜ length (now types) ≤ 576 ⌝ }
     ensures { λ r. ⌜ ((tags : List ℕ) → r ≡ verdictOf (firstNo (rows (now (types .entry))) 0 (countAsk (tablesOf (now (types .entry)) tags)))) ⌝ }
 {
-    let count = types.len() / 9;
+    let count = types.len() / ROW_WORDS;
     let mut t = 0;
     while t < count {
         let n = head(types, t);
@@ -236,7 +266,7 @@ fn field_words(types: &[u32]) -> Verdict
     requires { ⌜ length (now types) ≤ 576 ⌝ }
     ensures { λ r. ⌜ ((tags : List ℕ) → r ≡ verdictOf (firstNo (rows (now (types .entry))) 0 (fieldsAsk (tablesOf (now (types .entry)) tags)))) ⌝ }
 {
-    let count = types.len() / 9;
+    let count = types.len() / ROW_WORDS;
     let mut t = 0;
     while t < count {
         if !words_well(types, t, count as u32, head(types, t)) {
@@ -252,7 +282,7 @@ fn tag_types(types: &[u32], tags: &[u32]) -> Verdict
     requires { ⌜ (length (now types) ≤ 576) × (length (now tags) ≤ 64) ⌝ }
     ensures { λ r. ⌜ r ≡ verdictOf (firstNo (length (now (tags .entry))) 0 (tagAsk (tablesOf (now (types .entry)) (now (tags .entry))))) ⌝ }
 {
-    let count = (types.len() / 9) as u32;
+    let count = (types.len() / ROW_WORDS) as u32;
     let mut k = 0;
     while k < tags.len() {
         if count <= tags[k] {
@@ -302,7 +332,7 @@ pub fn lengths(blocks: &[u32], code: &[u32], starts: &mut [u32; 257]) -> Verdict
     ensures filled { λ r. ⌜ (length (now (starts .entry)) ≡ 257 → r .number ≡ 0
         → (b : ℕ) → b ≤ rows (now (blocks .entry)) → getD (now (starts .exit)) b 0 ≡ startOf (now (blocks .entry)) b) ⌝ }
 {
-    let count = blocks.len() / 9;
+    let count = blocks.len() / ROW_WORDS;
     let total = code.len() as u32;
     starts[0] = 0;
     let mut i = 0;
@@ -328,10 +358,10 @@ pub fn annotations(count: u32, blocks: &[u32]) -> Verdict
     ensures { λ r. ⌜ ((types tags code : List ℕ) → count ≡ rows types
         → r ≡ verdictOf (annotationsAsk (tablesOf types tags) (routineOf (now (blocks .entry)) code))) ⌝ }
 {
-    let total = blocks.len() / 9;
+    let total = blocks.len() / ROW_WORDS;
     let mut b = 0;
     while b < total {
-        if !words_well(blocks, b, count, 8) {
+        if !words_well(blocks, b, count, REGISTERS) {
             return refused(ANNOTATION, b);
         }
         b += 1;

@@ -6,9 +6,9 @@ use denote.Ref.{now}
 use lib.ListN.{length, length-set}
 use Rattle.model.specs.declared.Verdict.{Verdict}
 use Rattle.model.specs.Table.{rows, routineOf, startOf, blocksAsk, lengthsAsk}
-use Rattle.table.proofs.Laws.{start-none, start-more}
+use Rattle.table.proofs.Laws.{length-facts, start-none, start-more}
 use Rattle.table.proofs.Questions.{told-no, told-yes}
-use Rattle.table.proofs.Answers.{length-facts, lengths-start, lengths-on, lengths-stop, lengths-short, lengths-pass, Filled, filled-none, filled-more}
+use Rattle.table.proofs.Answers.{lengths-start, lengths-on, lengths-stop, lengths-short, lengths-pass, Filled, filled-none, filled-more}
 use Rattle.table.proofs.lengths.Statement.{statement}
 use Rattle.table.proofs.lengths.Tie as tie
 

@@ -2,7 +2,6 @@
 use mathlib.Core.Path.{_≡_, refl, _∙_}
 use Prim.Native.Nat.{_≤_, _-_}
 use native.Mathlib.Omega.{arith}
-use denote.Ref.{now}
 use Rattle.model.specs.Question.{every}
 use Rattle.model.specs.Table.{wordsOf}
 use Rattle.table.specs.Row.{placeWell}
