@@ -80,6 +80,10 @@ module _ (used : Bool) (n x : ℕ) where
   unfolding _or_
   dependency-constant e h = rw (e, le-ltb x n h)
 
+pub well-any : (count n w : ℕ) → w ≡ 0 → true ≡ wellMade count n w
+unfolding wellMade _and_ _or_
+well-any count n w e = rw e
+
 module _ (count n w k : ℕ) (ek : k ≡ kindOf w) where
   pub well-kind : 8 < k → false ≡ wellMade count n w
   unfolding wellMade _and_

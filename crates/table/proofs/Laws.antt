@@ -40,6 +40,9 @@ module _ (table : List ℕ) (k : ℕ) where
   pub word-at : (j : ℕ) → j < 8 → getD (wordsOf table k) j 0 ≡ getD table (k * 9 + (j + 1)) 0
   word-at j h = word-in-row j ∙ row-at (j + 1) (omega arith)
 
+  pub words-length : k * 9 + 9 ≤ length table → length (wordsOf table k) ≡ 8
+  words-length h = simp length-drop (omega (arith, row-length h))
+
 -- a row below the count lies in the table
 pub row-inside : (n k : ℕ) → k < n / 9 → k * 9 + 9 ≤ n
 row-inside n k h = omega arith

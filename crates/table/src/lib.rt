@@ -119,7 +119,7 @@ pub fn type_word(table: &[u32], k: usize, j: usize) -> u32
 
 // Whether n words are whole rows, from one row to the most.
 fn whole_rows(most: usize, n: usize) -> bool
-    requires { ⌜ most ≤ 256 ⌝ }
+    requires { ⌜ most ≤ 65536 ⌝ }
     ensures { λ r. ⌜ r ≡ wholeRows most n ⌝ }
 {
     if n % ROW_WORDS != 0 {
@@ -197,10 +197,13 @@ fn dependency_well(used: bool, n: u32, x: u32) -> bool
     CONSTANTS <= x
 }
 
-// Whether w is a type word over count record types and n names.
+// Whether w is a type word over count record types and n names. Any, the word 0, is by far the most common.
 pub fn well_made(count: u32, n: u32, w: u32) -> bool
     ensures { λ r. ⌜ r ≡ wellMade count n w ⌝ }
 {
+    if w == 0 {
+        return true;
+    }
     let kind = word::kind(w);
     if IN < kind {
         return false;

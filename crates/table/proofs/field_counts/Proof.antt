@@ -31,7 +31,7 @@ returns : tie.Need-returns Inv-loop μ-loop
 returns c = λ tags.
     let l = c .before .before .before .before .loop in
     c .refused .ensures
-    ∙ first-stops _ _ (l .t) _ (l .inv .0 tags) (omega arith) _ (count-none _ tags (l .t) _ (c .before .before .head .ensures) (c .before .if1 .taken))
+    ∙ first-stops _ _ (l .t) _ (l .inv .0 tags) (omega arith) _ (count-none _ tags (l .t) _ (c .before .before .head .ensures) (omega arith))
 
 refused-requires-2 : tie.Need-refused-requires-2 Inv-loop μ-loop
 refused-requires-2 c κs = omega arith

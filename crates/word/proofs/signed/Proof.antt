@@ -1,4 +1,5 @@
 -- `word::signed` meets its contract, below and from 2^15 on.
+use native.Mathlib.Omega.{arith}
 use borrow.Author.Needs.{needs}
 use Rattle.word.proofs.Signs.{signed-low, signed-high, signed-high-fits}
 use Rattle.word.proofs.signed.Statement.{statement}
@@ -14,10 +15,10 @@ sub-result : tie.Need-sub-result
 sub-result c = signed-high-fits (c .before .args .c) (c .before .pre)
 
 returns : tie.Need-returns
-returns c = signed-low (c .before .args .c) (c .if1 .taken)
+returns c = signed-low (c .before .args .c) (omega arith)
 
 returns-2 : tie.Need-returns-2
-returns-2 c = signed-high (c .before .args .c) (c .if1 .left) (c .before .pre)
+returns-2 c = signed-high (c .before .args .c) (omega arith) (c .before .pre)
 
 pub signed-spec : {M : Type 1} → statement M
 signed-spec = tie.close (tie.spec cast-result cast-result-2 sub-result returns returns-2)
