@@ -3,7 +3,6 @@ use mathlib.Core.Path.{_≡_, refl, ap, sym, _∙_}
 use mathlib.Core.Bool.{Bool, true}
 use mathlib.Core.List.{List}
 use Prim.Native.Nat.{ℕ, zero, suc, _+_, _*_, _/_, _%_, _<_, _≤_}
-use native.Mathlib.Nat.{add-zero, zero-add, add-suc, suc-add}
 use native.Mathlib.Numerals.{add-one}
 use native.Mathlib.Omega.{arith}
 use lib.ListN.{length, take, drop, getD, length-take, length-drop}
@@ -11,12 +10,13 @@ use lib.Seq.{getD-take, getD-drop}
 use lib.Dec.{ltb, leb, eqb}
 use borrow.Author.Tests.{lt-ltb, le-ltb, le-leb, ne-eqb, leb-true, ltb-true, eqb-true}
 use Rattle.model.specs.declared.Verdict.{Verdict}
-use Rattle.model.specs.Question.{_and_, _or_, pick, then, firstNo, ok, verdictOf}
+use Rattle.model.specs.Question.{_and_, _or_, pick, firstNo, ok, verdictOf}
 use Rattle.model.specs.Word.{kindOf, recordOf, firstOf, secondOf}
 use Rattle.model.specs.Table.{rowOf, rows, headOf, wordsOf, startOf, tablesOf, routineOf}
 use Rattle.model.specs.Table.{wholeRows, typeLengthsAsk, codeLengthsAsk, countAsk, fieldWell, fieldsAsk, tagAsk, typesAsk}
 use Rattle.model.specs.Table.{usesRecord, usesFirst, usesSecond, dependency, wellMade, blocksAsk, lengthsAsk, annotationWell, annotationAsk, annotationsAsk}
-use Rattle.table.proofs.Questions.{and-left, and-right, or-left, every-all, no-refusal, asked-yes, ask-first, ask-next, then-first, then-next, first-all}
+use Rattle.model.proofs.Logic.{either, byEqual, and-true, or-true, ask-ok, passed-then, every-true, firstNo-ok}
+use Rattle.table.proofs.Questions.{no-refusal}
 
 -- ---- rows
 
@@ -131,31 +131,32 @@ record-below : (count kind t : ℕ) → usesRecord kind ≡ true → recordPart 
 record-below count kind t e h = ltb-true t count (rw e at h)
 
 name-below : (used : Bool) (n x : ℕ) → used ≡ true → dependencyPart used n x ≡ true → x < 8 → x < n
-name-below used n x e h l = ltb-true x n (or-left (ltb x n) (leb 8 x) (rw e at h) (λ m. omega (arith, leb-true 8 x m)))
+name-below used n x e h l =
+    either (or-true (ltb x n) (leb 8 x) (rw e at h)) (λ a. ltb-true x n a) (λ a. absurd (omega (arith, leb-true 8 x a)))
 
 module _ (count n w : ℕ) (h : wellMade count n w ≡ true) where
+  parts : (leb (kindOf w) 8 ≡ true)
+      × (recordPart count (kindOf w) (recordOf w) ≡ true)
+      × (dependencyPart (usesFirst (kindOf w)) n (firstOf w) ≡ true)
+      × (dependencyPart (usesSecond (kindOf w)) n (secondOf w) ≡ true)
+  unfolding wellMade
+  parts =
+      let (k, q) = and-true (leb (kindOf w) 8) _ h in
+      let (r, q₁) = and-true (recordPart count (kindOf w) (recordOf w)) _ q in
+      let (d, e) = and-true (dependencyPart (usesFirst (kindOf w)) n (firstOf w)) _ q₁ in
+      (k, r, d, e)
+
   pub kind-bound : kindOf w ≤ 8
-  unfolding wellMade
-  kind-bound = leb-true (kindOf w) 8 (and-left (leb (kindOf w) 8) _ h)
-
-  past-kind : recordPart count (kindOf w) (recordOf w)
-      and dependencyPart (usesFirst (kindOf w)) n (firstOf w)
-      and dependencyPart (usesSecond (kindOf w)) n (secondOf w)
-      ≡ true
-  unfolding wellMade
-  past-kind = and-right (leb (kindOf w) 8) _ h
-
-  past-record : dependencyPart (usesFirst (kindOf w)) n (firstOf w) and dependencyPart (usesSecond (kindOf w)) n (secondOf w) ≡ true
-  past-record = and-right (recordPart count (kindOf w) (recordOf w)) _ past-kind
+  kind-bound = leb-true (kindOf w) 8 (parts .0)
 
   pub record-part : recordPart count (kindOf w) (recordOf w) ≡ true
-  record-part = and-left (recordPart count (kindOf w) (recordOf w)) _ past-kind
+  record-part = parts .1
 
   pub first-part : dependencyPart (usesFirst (kindOf w)) n (firstOf w) ≡ true
-  first-part = and-left (dependencyPart (usesFirst (kindOf w)) n (firstOf w)) _ past-record
+  first-part = parts .2
 
   pub second-part : dependencyPart (usesSecond (kindOf w)) n (secondOf w) ≡ true
-  second-part = and-right (dependencyPart (usesFirst (kindOf w)) n (firstOf w)) _ past-record
+  second-part = parts .3
 
   -- Ref, Maybe, and Run, From and In have a record type that exists
   pub record-of-ref : kindOf w ≡ 1 → recordOf w < count
@@ -178,59 +179,50 @@ module _ (count n w : ℕ) (h : wellMade count n w ≡ true) where
 
 whole-rows-facts : (most n : ℕ) → wholeRows most n ≡ true → (n % 9 ≡ 0) × (9 ≤ n) × (n ≤ 9 * most)
 whole-rows-facts most n h =
-    let more = and-right (eqb (n % 9) 0) (leb 9 n and leb n (9 * most)) h in (
-      eqb-true (n % 9) 0 (and-left (eqb (n % 9) 0) _ h),
-      leb-true 9 n (and-left (leb 9 n) _ more),
-      leb-true n (9 * most) (and-right (leb 9 n) (leb n (9 * most)) more),
-    )
+    let (a, q) = and-true (eqb (n % 9) 0) _ h in
+    let (b, c) = and-true (leb 9 n) _ q in
+    (eqb-true (n % 9) 0 a, leb-true 9 n b, leb-true n (9 * most) c)
 
 pub type-lengths-passed : (types tags : ℕ) (v : Verdict) → v ≡ verdictOf (typeLengthsAsk types tags) → v .number ≡ 0
     → (types % 9 ≡ 0) × (9 ≤ types) × (types ≤ 576) × (tags ≤ 64)
 unfolding typeLengthsAsk
 type-lengths-passed types tags v e z =
-    let o = no-refusal (typeLengthsAsk types tags) v e z in
-    let f = whole-rows-facts 64 types (ask-first (wholeRows 64 types) _ _ o) in
-    (f .0, f .1, f .2, leb-true tags 64 (asked-yes (leb tags 64) _ (ask-next (wholeRows 64 types) _ _ o)))
+    let (a, q) = ask-ok (wholeRows 64 types) _ _ (no-refusal (typeLengthsAsk types tags) v e z) in
+    let f = whole-rows-facts 64 types a in
+    (f .0, f .1, f .2, leb-true tags 64 (ask-ok (leb tags 64) _ _ q .0))
 
 pub code-lengths-passed : (blocks code : ℕ) (v : Verdict) → v ≡ verdictOf (codeLengthsAsk blocks code) → v .number ≡ 0
     → (blocks % 9 ≡ 0) × (9 ≤ blocks) × (blocks ≤ 2304) × (1 ≤ code) × (code ≤ 8192)
 unfolding codeLengthsAsk
 code-lengths-passed blocks code v e z =
-    let o = no-refusal (codeLengthsAsk blocks code) v e z in
-    let f = whole-rows-facts 256 blocks (ask-first (wholeRows 256 blocks) _ _ o) in
-    let g = asked-yes (leb 1 code and leb code 8192) _ (ask-next (wholeRows 256 blocks) _ _ o) in
-    (f .0, f .1, f .2, leb-true 1 code (and-left (leb 1 code) _ g), leb-true code 8192 (and-right (leb 1 code) _ g))
+    let (a, q) = ask-ok (wholeRows 256 blocks) _ _ (no-refusal (codeLengthsAsk blocks code) v e z) in
+    let (b, c) = and-true (leb 1 code) _ (ask-ok (leb 1 code and leb code 8192) _ _ q .0) in
+    let f = whole-rows-facts 256 blocks a in
+    (f .0, f .1, f .2, leb-true 1 code b, leb-true code 8192 c)
 
 -- ---- Q2 to Q4 passed
 
 module _ (types tags : List ℕ) (v : Verdict) (e : v ≡ verdictOf (typesAsk (tablesOf types tags))) (z : v .number ≡ 0) where
-  counts-ok : firstNo (rows types) 0 (countAsk (tablesOf types tags)) ≡ ok tt
+  each-ok : (firstNo (rows types) 0 (countAsk (tablesOf types tags)) ≡ ok tt)
+      × (firstNo (rows types) 0 (fieldsAsk (tablesOf types tags)) ≡ ok tt)
+      × (firstNo (length tags) 0 (tagAsk (tablesOf types tags)) ≡ ok tt)
   unfolding typesAsk tablesOf
-  counts-ok = then-first (firstNo (rows types) 0 (countAsk (tablesOf types tags))) _ (no-refusal (typesAsk (tablesOf types tags)) v e z)
-
-  past-counts : then (firstNo (rows types) 0 (fieldsAsk (tablesOf types tags))) (λ _. firstNo (length tags) 0 (tagAsk (tablesOf types tags))) ≡ ok tt
-  unfolding typesAsk tablesOf
-  past-counts = then-next (firstNo (rows types) 0 (countAsk (tablesOf types tags))) _ (no-refusal (typesAsk (tablesOf types tags)) v e z)
-
-  fields-ok : firstNo (rows types) 0 (fieldsAsk (tablesOf types tags)) ≡ ok tt
-  fields-ok = then-first (firstNo (rows types) 0 (fieldsAsk (tablesOf types tags))) _ past-counts
-
-  tags-ok : firstNo (length tags) 0 (tagAsk (tablesOf types tags)) ≡ ok tt
-  tags-ok = then-next (firstNo (rows types) 0 (fieldsAsk (tablesOf types tags))) _ past-counts
+  each-ok =
+      let (a, q) = passed-then _ _ (no-refusal (typesAsk (tablesOf types tags)) v e z) in
+      let (b, c) = passed-then _ _ q in
+      (a, b, c)
 
   -- each size is 1 to 8
   pub size-bounds : (t : ℕ) → t < rows types → (1 ≤ headOf types t) × (headOf types t ≤ 8)
   unfolding countAsk tablesOf
   size-bounds t h =
-      let n = headOf types t in
-      let g = asked-yes (leb 1 n and leb n 8) _ (rw zero-add at (first-all (rows types) 0 _ counts-ok t h)) in
-      (leb-true 1 n (and-left (leb 1 n) _ g), leb-true n 8 (and-right (leb 1 n) _ g))
+      let (a, b) = and-true (leb 1 (headOf types t)) _ (ask-ok _ _ _ (firstNo-ok _ 0 _ (each-ok .0) t (omega arith) (omega arith)) .0) in
+      (leb-true 1 (headOf types t) a, leb-true (headOf types t) 8 b)
 
   field-answer : (t f : ℕ) → t < rows types → f < 8 → fieldWell (tablesOf types tags) t f ≡ true
   unfolding fieldsAsk
   field-answer t f h l =
-      rw zero-add at
-      (every-all 8 0 (fieldWell (tablesOf types tags) t) (asked-yes _ _ (rw zero-add at (first-all (rows types) 0 _ fields-ok t h))) f l)
+      every-true 8 0 _ (ask-ok _ _ _ (firstNo-ok _ 0 _ (each-ok .1) t (omega arith) (omega arith)) .0) f (omega arith) (omega arith)
 
   -- a field's word is well made, and a word past the fields zero
   pub field-well-made : (t f : ℕ) → t < rows types → f < 8 → f < headOf types t
@@ -246,8 +238,7 @@ module _ (types tags : List ℕ) (v : Verdict) (e : v ≡ verdictOf (typesAsk (t
   pub tag-bound : (k : ℕ) → k < length tags → getD tags k 0 < rows types
   unfolding tagAsk tablesOf
   tag-bound k h =
-      ltb-true (getD tags k 0) (rows types)
-      (asked-yes (ltb (getD tags k 0) (rows types)) _ (rw zero-add at (first-all (length tags) 0 _ tags-ok k h)))
+      ltb-true (getD tags k 0) (rows types) (ask-ok _ _ _ (firstNo-ok _ 0 _ (each-ok .2) k (omega arith) (omega arith)) .0)
 
 -- ---- Q5 passed
 
@@ -257,20 +248,15 @@ lengthWell n i total = leb 1 n and leb n 32 and leb (i + n) total
 
 pub length-facts : (n i total : ℕ) → lengthWell n i total ≡ true → (1 ≤ n) × (n ≤ 32) × (i + n ≤ total)
 length-facts n i total h =
-    let more = and-right (leb 1 n) (leb n 32 and leb (i + n) total) h in (
-      leb-true 1 n (and-left (leb 1 n) _ h),
-      leb-true n 32 (and-left (leb n 32) _ more),
-      leb-true (i + n) total (and-right (leb n 32) (leb (i + n) total) more),
-    )
+    let (a, q) = and-true (leb 1 n) _ h in
+    let (b, c) = and-true (leb n 32) _ q in
+    (leb-true 1 n a, leb-true n 32 b, leb-true (i + n) total c)
 
 module _ (blocks code : List ℕ) where
-  first-block : (n b i : ℕ) → blocksAsk (routineOf blocks code) (suc n) b i ≡ ok tt → lengthWell (headOf blocks b) i (length code) ≡ true
+  first-block : (n b i : ℕ) → blocksAsk (routineOf blocks code) (suc n) b i ≡ ok tt
+      → (lengthWell (headOf blocks b) i (length code) ≡ true) × (blocksAsk (routineOf blocks code) n (suc b) (i + headOf blocks b) ≡ ok tt)
   unfolding blocksAsk routineOf
-  first-block n b i o = ask-first (lengthWell (headOf blocks b) i (length code)) _ _ o
-
-  next-blocks : (n b i : ℕ) → blocksAsk (routineOf blocks code) (suc n) b i ≡ ok tt → blocksAsk (routineOf blocks code) n (suc b) (i + headOf blocks b) ≡ ok tt
-  unfolding blocksAsk routineOf
-  next-blocks n b i o = ask-next (lengthWell (headOf blocks b) i (length code)) _ _ o
+  first-block n b i o = ask-ok (lengthWell (headOf blocks b) i (length code)) _ _ o
 
   next-start : (b : ℕ) → startOf blocks b + headOf blocks b ≡ startOf blocks (suc b)
   unfolding startOf
@@ -278,16 +264,18 @@ module _ (blocks code : List ℕ) where
 
   -- of the n blocks from b on
   each-block : (n b : ℕ) → blocksAsk (routineOf blocks code) n b (startOf blocks b) ≡ ok tt
-      → (k : ℕ) → k < n → lengthWell (headOf blocks (b + k)) (startOf blocks (b + k)) (length code) ≡ true
-  each-block zero b o k h = absurd (omega arith)
-  each-block (suc n) b o zero h = rw add-zero (first-block n b (startOf blocks b) o)
-  each-block (suc n) b o (suc k) h =
-      rw (add-suc, ← suc-add) (each-block n (suc b) (rw (next-start b) at (next-blocks n b (startOf blocks b) o)) k (omega arith))
+      → (j : ℕ) → b ≤ j → j < b + n → lengthWell (headOf blocks j) (startOf blocks j) (length code) ≡ true
+  each-block zero b o j lo hi = absurd (omega arith)
+  each-block (suc n) b o j lo hi =
+      let (a, q) = first-block n b (startOf blocks b) o in
+      byEqual j b (λ s. rw s a) (λ d. each-block n (suc b) (rw (next-start b) at q) j (omega arith) (omega arith))
 
-  covered : (n b : ℕ) → blocksAsk (routineOf blocks code) n b (startOf blocks b) ≡ ok tt → startOf blocks (b + n) ≡ length code
+  covered : (n b : ℕ) → blocksAsk (routineOf blocks code) n b (startOf blocks b) ≡ ok tt → (j : ℕ) → j ≡ b + n → startOf blocks j ≡ length code
   unfolding blocksAsk routineOf
-  covered zero b o = rw add-zero (eqb-true (startOf blocks b) (length code) (asked-yes (eqb (startOf blocks b) (length code)) _ o))
-  covered (suc n) b o = rw (add-suc, ← suc-add) (covered n (suc b) (rw (next-start b) at (next-blocks n b (startOf blocks b) o)))
+  covered zero b o j e =
+      let s : j ≡ b = omega arith in
+      rw s (eqb-true (startOf blocks b) (length code) (ask-ok (eqb (startOf blocks b) (length code)) _ _ o .0))
+  covered (suc n) b o j e = covered n (suc b) (rw (next-start b) at (first-block n b (startOf blocks b) o .1)) j (omega arith)
 
 module _ (blocks code : List ℕ) (v : Verdict) (e : v ≡ verdictOf (lengthsAsk (routineOf blocks code))) (z : v .number ≡ 0) where
   blocks-ok : blocksAsk (routineOf blocks code) (rows blocks) 0 (startOf blocks 0) ≡ ok tt
@@ -296,11 +284,11 @@ module _ (blocks code : List ℕ) (v : Verdict) (e : v ≡ verdictOf (lengthsAsk
 
   pub block-bounds : (b : ℕ) → b < rows blocks → (1 ≤ headOf blocks b) × (headOf blocks b ≤ 32) × (startOf blocks b + headOf blocks b ≤ length code)
   block-bounds b h =
-      length-facts (headOf blocks b) (startOf blocks b) (length code) (rw zero-add at (each-block blocks code (rows blocks) 0 blocks-ok b h))
+      length-facts (headOf blocks b) (startOf blocks b) (length code) (each-block blocks code (rows blocks) 0 blocks-ok b (omega arith) (omega arith))
 
   -- the blocks cover the code
   pub code-covered : startOf blocks (rows blocks) ≡ length code
-  code-covered = rw zero-add at (covered blocks code (rows blocks) 0 blocks-ok)
+  code-covered = covered blocks code (rows blocks) 0 blocks-ok (rows blocks) (omega arith)
 
 -- ---- Q6 passed
 
@@ -313,6 +301,4 @@ module _ (types tags blocks code : List ℕ) (v : Verdict) (e : v ≡ verdictOf 
   pub annotation-well-made : (b r : ℕ) → b < rows blocks → r < 8 → wellMade (rows types) 8 (getD (wordsOf blocks b) r 0) ≡ true
   unfolding annotationAsk annotationWell tablesOf routineOf
   annotation-well-made b r h l =
-      rw zero-add at
-      (every-all 8 0 (λ (j : ℕ). annotationWell (rows types) (getD (wordsOf blocks b) j 0))
-      (asked-yes _ _ (rw zero-add at (first-all (rows blocks) 0 _ annotations-ok b h))) r l)
+      every-true 8 0 _ (ask-ok _ _ _ (firstNo-ok _ 0 _ annotations-ok b (omega arith) (omega arith)) .0) r (omega arith) (omega arith)
