@@ -1,1 +1,2 @@
+-- Definitions of the crate.
 pub mod Row

@@ -1,2 +1,3 @@
+-- Laws of the crate: words of any width, and signed numbers.
 pub mod Width
 pub mod Signs
