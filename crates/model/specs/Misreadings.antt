@@ -55,7 +55,7 @@ pub record Misreadings : Type 0 where
   -- two pointers are different records because their values differ; loads need not ask
   pub otherPointer : check plotTypes plotTags (plotBlocks 6 0) (loadWord 2 1 0 ∷ storeWord 5 1 0 ∷ loadWord 3 6 1 ∷ loadWord 7 6 0 ∷ storeWord 2 1 0 ∷ ifEqualWord 7 0 2 ∷ tailCode) ≡ verdict 12 0 2
   -- a dependency is a register's number and not the value that it had
-  pub overwrittenBound : check plotTypes plotTags (row 2 0 (fromWord 0 2 3) 0 0 0 0 0 0 ++ freeBlock 1 ++ row 2 0 (inWord 0 2 3) 0 0 0 0 0 0) (constantWord 3 60000 ∷ ifLessWord 1 3 2 ∷ haltWord ∷ loadWord 4 1 0 ∷ haltWord ∷ []) ≡ verdict 14 0 1
+  pub overwrittenBound : check plotTypes plotTags (row 3 0 (fromWord 0 2 3) 0 0 0 0 0 0 ++ freeBlock 1 ++ row 2 0 (inWord 0 2 4) 0 0 0 0 0 0) (copyWord 4 3 ∷ constantWord 3 60000 ∷ ifLessWord 1 3 2 ∷ haltWord ∷ loadWord 4 1 0 ∷ haltWord ∷ []) ≡ verdict 14 0 2
   -- a move keeps From
   pub movedFrom : check plotTypes plotTags (row 2 0 (fromWord 0 2 3) 0 0 0 0 0 0 ++ row 1 0 (fromWord 0 2 3) 0 0 0 0 0 0) (moveWord 1 1 2 ∷ jumpWord 1 ∷ haltWord ∷ []) ≡ verdict 14 0 1
   -- Maybe becomes Ref after a test against a constant that is not 0; the untaken edge is not asked
