@@ -52,6 +52,14 @@ pub not-true : (b : Bool) → not b ≡ true → b ≡ false
 not-true true e = absurd (false≢true e)
 not-true false e = refl
 
+-- what an answer b tells of the test t that it stands for, past `not b`
+pub told-no : {t b : Bool} → b ≡ t → not b ≡ true → t ≡ false
+told-no {b = b} e h = sym e ∙ not-true b h
+
+pub told-yes : {t b : Bool} → b ≡ t → not b ≡ false → t ≡ true
+told-yes {b = true} e h = sym e
+told-yes {b = false} e h = absurd (false≢true (sym h))
+
 pub pick-true {ℓ} : {A : Type ℓ} (b : Bool) (x y : A) → b ≡ true → pick b x y ≡ x
 pick-true b x y e = rw e
 

@@ -70,6 +70,15 @@ byOpcode a b c =
 unfoldable pub decode : ℕ → Instruction
 decode w = getD (byOpcode (aOf w) (bOf w) (cOf w)) (opcodeOf w) malformed
 
+-- Q7 as a test
+abbrev pub hasForm : Instruction → Bool
+hasForm (plain x) = true
+hasForm (end e) = true
+hasForm malformed = false
+
+unfoldable pub wellFormed : ℕ → Bool
+wellFormed w = hasForm (decode w)
+
 -- ---- one instruction
 
 -- what an instruction does, known before memory is looked at: put x in register a; put the word at address x in register a;

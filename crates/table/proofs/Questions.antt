@@ -1,23 +1,16 @@
 -- Laws of questions as a loop asks them: what the whole comes to one step on, at a no and at the end.
 use mathlib.Core.Path.{_≡_, refl, ap, sym, _∙_}
-use mathlib.Core.Bool.{Bool, true, false, not}
+use mathlib.Core.Bool.{Bool, true, false}
 use Prim.Native.Nat.{ℕ, suc, _+_, _-_, _<_, _≤_}
 use native.Mathlib.Nat.{sub-zero, sub-eq-zero-of-le}
 use native.Mathlib.Numerals.{add-one}
 use native.Mathlib.Omega.{arith}
-use borrow.Author.Tests.{not-true, not-false}
 use Rattle.model.specs.declared.Verdict.{Verdict}
 use Rattle.model.proofs.Logic.{verdict-ok}
+pub use Rattle.model.proofs.Logic.{told-no, told-yes}
 use Rattle.model.specs.Question.{_and_, every, Refusal, Outcome, ok, refused, then, firstNo, passed, refusing, verdictOf}
 
 -- ---- tests
-
--- what a callee's answer b tells of the test a that it stands for, past `if !b`
-pub told-no : {a b : Bool} → b ≡ a → not b ≡ true → a ≡ false
-told-no {b = b} e h = sym e ∙ not-true b h
-
-pub told-yes : {a b : Bool} → b ≡ a → not b ≡ false → a ≡ true
-told-yes {b = b} e h = sym e ∙ not-false b h
 
 -- one less is left after each step
 pub left : (n i : ℕ) → i < n → n - i ≡ suc (n - (i + 1))
