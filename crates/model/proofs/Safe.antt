@@ -136,7 +136,7 @@ module _ (types tags allocations memory : List ℕ) (n : ℕ) (tasks : ℕ → T
     unfolding answerOf standingAfter
     ended-by x q (pausing {s = s} p f z) =
         let (B, M) = safe .blockEnds s p z in
-        record { ends = pauses p f q; good = rw q (waits-good w i (s .block) (s .registers) (s .memory) G mine M B) }
+        record { ends = pauses p f z q; good = rw q (waits-good w i (s .block) (s .registers) (s .memory) G mine M B) }
     ended-by x q (last-halting {s = s} {s' = s'} p f h) =
         record { ends = halting p f h q; good = rw q (done-good w i (s' .memory) G (safe .atHalt s s' p h)) }
     ended-by x q (faulting {s = s} {q = y} p f h) = absurd (safe .faultless s s y p h)

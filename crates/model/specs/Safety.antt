@@ -45,16 +45,19 @@ module _ (types tags allocations memory : List ℕ) (n : ℕ) (tasks : ℕ → T
 
   -- The run is the machine's: its answer is that of the last state passed through, 40 after its budget of blocks, or 0 at a halt.
   pub data Ends (i budget : ℕ) (s₀ : State) (a : Run) : Type 0 where
-    pauses : {s : State} → Passes (P i) budget s₀ s → s .finished ≡ budget → a ≡ answerAt (P i) 40 s → Ends i budget s₀ a
+    pauses : {s : State} → Passes (P i) budget s₀ s → s .finished ≡ budget → s .offset ≡ 0 → a ≡ answerAt (P i) 40 s → Ends i budget s₀ a
     halting : {s s' : State} → Passes (P i) budget s₀ s → s .finished < budget → step (P i) s ≡ halts s' → a ≡ answerAt (P i) 0 s' → Ends i budget s₀ a
+
+  abbrev pub Visits : World → ℕ → ℕ → ℕ → List ℕ → State → Type 0
+  Visits w i budget b r s = Passes (P i) budget (begin b r (w .memory)) s
 
   -- What holds of every state that a turn passes through, block ends inside the run and the halt among them.
   pub record TurnSafe (w : World) (i budget b : ℕ) (r : List ℕ) : Type 0 where
     pub ends : Ends i budget (begin b r (w .memory)) (turnRun tasks w i budget b r)
-    pub loads : (s : State) → Passes (P i) budget (begin b r (w .memory)) s → (a c d : ℕ) → instructionAt (P i) (s .block) (s .offset) ≡ plain (load a c d) → InField i s c d
-    pub stores : (s : State) → Passes (P i) budget (begin b r (w .memory)) s → (a c d : ℕ) → instructionAt (P i) (s .block) (s .offset) ≡ plain (store a c d) → InField i s c d
-    pub blockEnds : (s : State) → Passes (P i) budget (begin b r (w .memory)) s → s .offset ≡ 0 → Fit (settled w i (s .memory) (waiting (s .block) (s .registers)))
-    pub atHalt : (s s' : State) → Passes (P i) budget (begin b r (w .memory)) s → step (P i) s ≡ halts s' → Fit (settled w i (s' .memory) done)
+    pub loads : (s : State) → Visits w i budget b r s → (a c d : ℕ) → instructionAt (P i) (s .block) (s .offset) ≡ plain (load a c d) → InField i s c d
+    pub stores : (s : State) → Visits w i budget b r s → (a c d : ℕ) → instructionAt (P i) (s .block) (s .offset) ≡ plain (store a c d) → InField i s c d
+    pub blockEnds : (s : State) → Visits w i budget b r s → s .offset ≡ 0 → Fit (settled w i (s .memory) (waiting (s .block) (s .registers)))
+    pub atHalt : (s s' : State) → Visits w i budget b r s → step (P i) s ≡ halts s' → Fit (settled w i (s' .memory) done)
 
   abbrev pub CallSafe : Call → World → Type 0
   CallSafe (turn i budget) w = (b : ℕ) (r : List ℕ) → w .standing i ≡ waiting b r → TurnSafe w i budget b r
