@@ -8,8 +8,11 @@ pub const POOL: usize = 40960;
 // ---- requests
 
 pub const CHECK: u32 = 1;
+
 pub const MEMORY: u32 = 2;
+
 pub const ENTRY: u32 = 3;
+
 pub const RUN: u32 = 4;
 
 fn tables(request: u32) -> u32 {
@@ -314,7 +317,13 @@ fn take(l: Line, words: &mut [u32; 40960], ends: &mut [usize; 6], numbers: &mut 
     take_number(l, numbers)
 }
 
-fn number_byte(l: Line, byte: u8, words: &mut [u32; 40960], ends: &mut [usize; 6], numbers: &mut [u64; 10]) -> Line {
+fn number_byte(
+    l: Line,
+    byte: u8,
+    words: &mut [u32; 40960],
+    ends: &mut [usize; 6],
+    numbers: &mut [u64; 10],
+) -> Line {
     if !is_blank(byte) {
         return digit(l, byte);
     }
@@ -326,7 +335,13 @@ fn number_byte(l: Line, byte: u8, words: &mut [u32; 40960], ends: &mut [usize; 6
 
 // ---- a line
 
-fn read(l: Line, byte: u8, words: &mut [u32; 40960], ends: &mut [usize; 6], numbers: &mut [u64; 10]) -> Line {
+fn read(
+    l: Line,
+    byte: u8,
+    words: &mut [u32; 40960],
+    ends: &mut [usize; 6],
+    numbers: &mut [u64; 10],
+) -> Line {
     if l.phase == EMPTY {
         return first_byte(l, byte);
     }
@@ -340,7 +355,13 @@ fn read(l: Line, byte: u8, words: &mut [u32; 40960], ends: &mut [usize; 6], numb
 }
 
 // The line after one more byte that is not its end.
-pub fn next(l: Line, byte: u8, words: &mut [u32; 40960], ends: &mut [usize; 6], numbers: &mut [u64; 10]) -> Line {
+pub fn next(
+    l: Line,
+    byte: u8,
+    words: &mut [u32; 40960],
+    ends: &mut [usize; 6],
+    numbers: &mut [u64; 10],
+) -> Line {
     let mut m = read(l, byte, words, ends, numbers);
     if l.at < 18446744073709551615 {
         m.at = l.at + 1;
@@ -349,7 +370,12 @@ pub fn next(l: Line, byte: u8, words: &mut [u32; 40960], ends: &mut [usize; 6], 
 }
 
 // The line at its end: EMPTY, COMMENT, MALFORMED, or GAP for a whole request.
-pub fn end(l: Line, words: &mut [u32; 40960], ends: &mut [usize; 6], numbers: &mut [u64; 10]) -> Line {
+pub fn end(
+    l: Line,
+    words: &mut [u32; 40960],
+    ends: &mut [usize; 6],
+    numbers: &mut [u64; 10],
+) -> Line {
     if l.phase == NAME {
         return malformed(l);
     }
