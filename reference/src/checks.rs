@@ -1,0 +1,205 @@
+//! The check of a routine, the memory check and the entry check.
+
+use crate::machine::{form, parts, q17};
+use crate::reading::Reading;
+use crate::tables::*;
+use crate::{no, verdict, Asked, Verdict};
+
+// ---- the check
+
+fn instruction(r: Routine, reading: &mut Reading, b: usize, index: usize, last: bool, types: Types) -> Asked {
+    let p = parts(r.code[index]);
+    let (a, base, c) = (p.a, p.b, p.c);
+    let number = form(p, last, b, r.count());
+    if number != 0 {
+        return no(number, b, index);
+    }
+    match p.op {
+        1 => reading.constant(a, c),
+        2 => reading.copy(a, base),
+        3..=6 => reading.unknown(a),
+        7 => reading.moved(a, base, c),
+        8 | 9 => {
+            let Some(t) = reading.reference(base) else {
+                return no(10, b, index);
+            };
+            if c as usize >= types.size(t) {
+                return no(11, b, index);
+            }
+            if !reading.may_touch(base) {
+                return no(12, b, index);
+            }
+            if p.op == 8 {
+                reading.load(a, base, c as usize, t);
+            } else {
+                reading.store(a, base, c as usize, t);
+            }
+        }
+        _ => return block_end(r, reading, b, index),
+    }
+    Ok(())
+}
+
+fn block_end(r: Routine, reading: &mut Reading, b: usize, index: usize) -> Asked {
+    let p = parts(r.code[index]);
+    if reading.open.is_some() {
+        return no(13, b, index);
+    }
+    let (taken, untaken) = match p.op {
+        10 => (reading.meets(r.annotation(p.c as usize), None), true),
+        11 => {
+            let (k, t) = (p.c >> 8, (p.c & 255) as usize);
+            (reading.meets_equal(r.annotation(t), p.a, k), reading.meets_not_equal(r.annotation(b + 1), p.a, k))
+        }
+        12 => (reading.meets_less(r.annotation(p.c as usize), p.a, p.b), reading.meets_not_less(r.annotation(b + 1), p.a, p.b)),
+        _ => (true, true),
+    };
+    if !taken {
+        return no(14, b, index);
+    }
+    if !untaken {
+        return no(15, b, index);
+    }
+    Ok(())
+}
+
+fn judge(types: Types, r: Routine) -> Asked {
+    let mut reading = Reading::new(types);
+    let mut index = 0;
+    for b in 0..r.count() {
+        reading.enter(r.annotation(b));
+        let end = index + r.long(b);
+        while index < end {
+            instruction(r, &mut reading, b, index, index + 1 == end, types)?;
+            index += 1;
+        }
+    }
+    Ok(())
+}
+
+fn check_asked(types: &[u32], tags: &[u32], blocks: &[u32], code: &[u32]) -> Asked {
+    q1_types(types, tags)?;
+    q1_code(blocks, code)?;
+    let ts = Types { rows: types, tags };
+    let r = Routine { rows: blocks, code };
+    q2_to_q4(ts)?;
+    q5(r)?;
+    q6(ts, r)?;
+    judge(ts, r)
+}
+
+pub fn check(types: &[u32], tags: &[u32], blocks: &[u32], code: &[u32]) -> Verdict {
+    verdict(check_asked(types, tags, blocks, code))
+}
+
+// ---- allocations and meanings
+
+/// By address: the type of the record that starts there and how many of its type follow each other from there on.
+struct Owners(Vec<(u32, u32)>);
+
+const FREE: u32 = u32::MAX;
+
+impl Owners {
+    fn new(types: Types, allocations: &[u32], top: usize) -> Self {
+        let mut all = vec![(FREE, 0); top];
+        let mut next = (usize::MAX, FREE, 0);
+        for row in allocations.chunks(2).rev() {
+            let (start, t) = (row[0] as usize, row[1]);
+            let follows = next.0 == start + types.size(t as usize) && next.1 == t;
+            let many = if follows { next.2 + 1 } else { 1 };
+            all[start] = (t, many);
+            next = (start, t, many);
+        }
+        Owners(all)
+    }
+
+    fn is(&self, p: u32, t: usize) -> bool {
+        self.0.get(p as usize).is_some_and(|o| o.0 as usize == t)
+    }
+
+    fn many(&self, p: u32) -> u32 {
+        self.0[p as usize].1
+    }
+}
+
+fn meets(types: Types, owners: &Owners, w: u32, words: &[u32], p: u32) -> bool {
+    let at = |x: usize| if x < 8 { words[x] } else { x as u32 - 8 };
+    let (d, e, t) = (at(first(w)), at(second(w)), record(w));
+    let tagged = || types.tags.get(d as usize).is_some_and(|&t| owners.is(p, t as usize));
+    match kind(w) {
+        ANY => true,
+        REF => owners.is(p, t),
+        MAYBE => p == 0 || owners.is(p, t),
+        TAGGED => p == 0 || tagged(),
+        PRESENT => p != 0 && tagged(),
+        SAME => p == d,
+        k => {
+            let n = types.size(t) as u32;
+            let run = d < e && (e - d) % n == 0 && p.wrapping_sub(d) % n == 0 && owners.is(d, t) && (e - d) / n <= owners.many(d);
+            run && (k == RUN || d <= p) && (k != IN || p < e)
+        }
+    }
+}
+
+fn q19(types: Types, allocations: &[u32], top: usize) -> Asked {
+    if allocations.len() % 2 != 0 || allocations.len() > 8192 {
+        return no(19, 0, 0);
+    }
+    let mut low = 1u64;
+    for (r, row) in allocations.chunks(2).enumerate() {
+        let (start, t) = (row[0] as u64, row[1] as usize);
+        if t >= types.count() || start < low || start + types.size(t) as u64 > top as u64 {
+            return no(19, r, 0);
+        }
+        low = start + types.size(t) as u64;
+    }
+    Ok(())
+}
+
+fn layout(types: Types, allocations: &[u32], top: usize) -> Asked {
+    q1_types(types.rows, types.tags)?;
+    q2_to_q4(types)?;
+    q17(top)?;
+    q19(types, allocations, top)
+}
+
+fn memory_asked(types: Types, allocations: &[u32], memory: &[u32]) -> Asked {
+    layout(types, allocations, memory.len())?;
+    let owners = Owners::new(types, allocations, memory.len());
+    for (r, row) in allocations.chunks(2).enumerate() {
+        let (start, t) = (row[0] as usize, row[1] as usize);
+        let words = &memory[start..start + types.size(t)];
+        for (f, &p) in words.iter().enumerate() {
+            if !meets(types, &owners, types.fields(t)[f], words, p) {
+                return no(20, r, f);
+            }
+        }
+    }
+    Ok(())
+}
+
+pub fn memory_check(types: &[u32], tags: &[u32], allocations: &[u32], memory: &[u32]) -> Verdict {
+    verdict(memory_asked(Types { rows: types, tags }, allocations, memory))
+}
+
+pub fn entry_check(types: &[u32], tags: &[u32], allocations: &[u32], memory: &[u32], blocks: &[u32], code: &[u32], block: u32, registers: [u32; 8]) -> Verdict {
+    let ts = Types { rows: types, tags };
+    let r = Routine { rows: blocks, code };
+    let asked = || {
+        layout(ts, allocations, memory.len())?;
+        q1_code(blocks, code)?;
+        q5(r)?;
+        q6(ts, r)?;
+        if block as usize >= r.count() {
+            return no(16, 0, 0);
+        }
+        let owners = Owners::new(ts, allocations, memory.len());
+        for (i, &w) in r.annotation(block as usize).iter().enumerate() {
+            if !meets(ts, &owners, w, &registers, registers[i]) {
+                return no(21, i, 0);
+            }
+        }
+        Ok(())
+    };
+    verdict(asked())
+}
