@@ -1,0 +1,29 @@
+-- `memory::layout::allocations` meets its contract: the length, then the rows.
+use mathlib.Core.Path.{_∙_}
+use Rattle.memory.proofs.Layouts.{allocations-odd, allocations-many, allocations-rows}
+use borrow.Author.Needs.{needs}
+use Rattle.memory.proofs.layout.allocations.Statement.{statement}
+use Rattle.memory.proofs.layout.allocations.Tie as tie
+
+refused-requires : tie.Need-refused-requires
+refused-requires c κs = search needs
+
+returns : tie.Need-returns
+returns c = λ tags. c .refused .ensures ∙ allocations-odd _ tags _ _ (c .before .if1 .taken)
+
+refused-requires-2 : tie.Need-refused-requires-2
+refused-requires-2 c κs = search needs
+
+returns-2 : tie.Need-returns-2
+returns-2 c = λ tags. c .refused2 .ensures ∙ allocations-many _ tags _ _ (c .before .before .if1 .left) (c .before .if2 .taken)
+
+rows-requires : tie.Need-rows-requires
+rows-requires c κs = search needs
+
+returns-3 : tie.Need-returns-3
+returns-3 c = λ tags. c .rows .ensures tags ∙ allocations-rows _ tags _ _ (c .before .before .if1 .left) (c .before .if2 .left)
+
+pub allocations-spec : {M : Type 1} → statement M
+allocations-spec =
+    tie.close
+    (tie.spec refused-requires returns refused-requires-2 returns-2 rows-requires returns-3)

@@ -1,0 +1,168 @@
+-- `memory::records` meets its contract. The invariant: the records from row k on come to what all come to.
+use mathlib.Core.Path.{_≡_, refl, _∙_}
+use Prim.Native.Nat.{_-_, _*_, _/_, _+_, _≤_}
+use native.Mathlib.Omega.{arith}
+use denote.Ref.{now}
+use lib.ListN.{length, drop}
+use Rattle.model.specs.Table.{tablesOf}
+use Rattle.model.specs.MemoryCheck.{recordsAsk}
+use Rattle.memory.proofs.Checks.{layout-rows, layout-even, layout-sized, layout-row, layout-well, tail-length, records-on, records-stop, records-end}
+use Rattle.memory.proofs.records.Statement.{statement}
+use Rattle.memory.proofs.records.Tie as tie
+
+abbrev Inv-loop : tie.InvT-loop
+Inv-loop types tags owners allocations memory count k₀ k =
+    (recordsAsk (tablesOf types tags) allocations memory allocations 0 ≡ recordsAsk (tablesOf types tags) allocations memory (drop (k * 2) allocations) k)
+    × (k ≤ length allocations / 2)
+
+abbrev μ-loop : tie.MeasureT-loop
+μ-loop types tags owners allocations memory count k₀ k = length allocations / 2 - k
+
+loop-holds : tie.Need-loop-holds Inv-loop μ-loop
+loop-holds c = (refl, omega arith)
+
+mul-start : tie.Need-mul-start Inv-loop μ-loop
+mul-start c = omega arith
+
+mul-start-2 : tie.Need-mul-start-2 Inv-loop μ-loop
+mul-start-2 c = omega arith
+
+shared-slice-read-start : tie.Need-shared-slice-read-start Inv-loop μ-loop
+shared-slice-read-start c = omega arith
+
+cast-start : tie.Need-cast-start Inv-loop μ-loop
+cast-start c =
+    let l = c .before .before .loop in
+    omega (arith, c .shared-slice-known5 .given (l .k * 2))
+
+mul-t : tie.Need-mul-t Inv-loop μ-loop
+mul-t c = omega arith
+
+add-t : tie.Need-add-t Inv-loop μ-loop
+add-t c = omega arith
+
+mul-t-2 : tie.Need-mul-t-2 Inv-loop μ-loop
+mul-t-2 c = omega arith
+
+shared-slice-read-t : tie.Need-shared-slice-read-t Inv-loop μ-loop
+shared-slice-read-t c = omega arith
+
+cast-t : tie.Need-cast-t Inv-loop μ-loop
+cast-t c =
+    let l = c .before .before .before .loop in
+    omega (arith, c .shared-slice-known6 .given (l .k * 2 + 1))
+
+head-requires : tie.Need-head-requires Inv-loop μ-loop
+head-requires c κs =
+    let l = c .before .before .before .loop in
+    let s = c .before .before .before .before .before .before .before .before in
+    omega (arith, layout-row _ _ _ _ (s .pre .0) (l .k) (omega arith))
+
+cast-n : tie.Need-cast-n Inv-loop μ-loop
+cast-n c = omega arith
+
+mul-first-unmet : tie.Need-mul-first-unmet Inv-loop μ-loop
+mul-first-unmet c =
+    let l = c .before .before .before .before .loop in
+    let s = c .before .before .before .before .before .before .before .before .before in
+    omega (arith, layout-row _ _ _ _ (s .pre .0) (l .k) (omega arith))
+
+sub-first-unmet : tie.Need-sub-first-unmet Inv-loop μ-loop
+sub-first-unmet c =
+    let l = c .before .before .before .before .loop in
+    let s = c .before .before .before .before .before .before .before .before .before in
+    omega (arith, layout-row _ _ _ _ (s .pre .0) (l .k) (omega arith))
+
+part-first-unmet-start : tie.Need-part-first-unmet-start Inv-loop μ-loop
+part-first-unmet-start c =
+    let l = c .before .before .before .before .loop in
+    let s = c .before .before .before .before .before .before .before .before .before in
+    omega (arith, layout-row _ _ _ _ (s .pre .0) (l .k) (omega arith))
+
+part-first-unmet-end : tie.Need-part-first-unmet-end Inv-loop μ-loop
+part-first-unmet-end c =
+    let l = c .before .before .before .before .loop in
+    let s = c .before .before .before .before .before .before .before .before .before in
+    omega (arith, layout-row _ _ _ _ (s .pre .0) (l .k) (omega arith))
+
+first-unmet-requires : tie.Need-first-unmet-requires Inv-loop μ-loop
+first-unmet-requires c κs =
+    let h = c .before in
+    let l = c .before .before .before .before .before .loop in
+    let s = c .before .before .before .before .before .before .before .before .before .before in
+    let r = layout-row _ _ _ _ (s .pre .0) (l .k) (omega arith) in (
+      layout-sized _ _ _ _ (s .pre .0),
+      omega (arith, r),
+      omega (arith, r, h .head .ensures),
+      tail-length (now (s .args .memory)) _ _ (omega (arith, r, h .head .ensures)),
+      layout-well _ _ _ _ (s .pre .0) _ _ (r .0) (h .head .ensures),
+    )
+
+refused-requires : tie.Need-refused-requires Inv-loop μ-loop
+refused-requires c κs =
+    let h = c .before .before .before in
+    let l = c .before .before .before .before .before .before .before .loop in
+    let s = c .before .before .before .before .before .before .before .before .before .before .before .before in
+    omega (arith, h .head .ensures, layout-rows _ _ _ _ (s .pre .0), layout-row _ _ _ _ (s .pre .0) (l .k) (omega arith))
+
+returns : tie.Need-returns Inv-loop μ-loop
+returns c =
+    let m = c .before .before in
+    let h = c .before .before .before .before in
+    let l = c .before .before .before .before .before .before .before .before .loop in
+    let s = c .before .before .before .before .before .before .before .before .before .before .before .before .before in
+    c .refused .ensures ∙ records-stop _ _ (now (s .args .allocations)) (now (s .args .memory)) (l .k) _ (l .inv .0) (omega arith) _ _ _ _ refl refl (h .head .ensures) (m .first-unmet .ensures _ (s .pre .1)) (c .before .if1 .taken)
+
+add-k : tie.Need-add-k Inv-loop μ-loop
+add-k c = omega arith
+
+loop-less : tie.Need-loop-less Inv-loop μ-loop
+loop-less c = omega arith
+
+loop-again : tie.Need-loop-again Inv-loop μ-loop
+loop-again c =
+    let m = c .before in
+    let h = c .before .before .before in
+    let l = c .before .before .before .before .before .before .before .loop in
+    let s = c .before .before .before .before .before .before .before .before .before .before .before .before in
+    (records-on _ _ (now (s .args .allocations)) (now (s .args .memory)) (l .k) _ (l .inv .0) (omega arith) _ _ _ _ refl refl (h .head .ensures) (m .first-unmet .ensures _ (s .pre .1)) (c .if1 .left), omega arith)
+
+passed-requires : tie.Need-passed-requires Inv-loop μ-loop
+passed-requires c κs = tt
+
+returns-2 : tie.Need-returns-2 Inv-loop μ-loop
+returns-2 c =
+    let l = c .before .before .loop in
+    let s = c .before .before .before .before .before .before .before in
+    c .passed .ensures ∙ records-end _ _ (now (s .args .allocations)) _ (l .k) _ (l .inv .0) (omega (arith, layout-even _ _ _ _ (s .pre .0)))
+
+pub records-spec : {M : Type 1} → statement M
+records-spec =
+    tie.close
+    (tie.spec
+    Inv-loop
+    μ-loop
+    loop-holds
+    mul-start
+    mul-start-2
+    shared-slice-read-start
+    cast-start
+    mul-t
+    add-t
+    mul-t-2
+    shared-slice-read-t
+    cast-t
+    head-requires
+    cast-n
+    mul-first-unmet
+    sub-first-unmet
+    part-first-unmet-start
+    part-first-unmet-end
+    first-unmet-requires
+    refused-requires
+    returns
+    add-k
+    loop-less
+    loop-again
+    passed-requires
+    returns-2)
