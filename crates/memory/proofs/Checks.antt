@@ -122,7 +122,8 @@ tail-length memory p n h = rw (tail-is memory p) (omega (arith, length-drop p me
 module _ (types tags allocations memory : List ℕ) (k : ℕ) (whole : Outcome (Unit {0}))
     (e : whole ≡ recordsAsk (tablesOf types tags) allocations memory (drop (k * 2) allocations) k) where
   module _ (h : k * 2 + 1 < length allocations) (p t n f : ℕ) (ep : p ≡ getD allocations (k * 2) 0) (et : t ≡ getD allocations (k * 2 + 1) 0)
-      (en : n ≡ headOf types t) (ef : f ≡ firstFalse n 0 (placeMeets (tablesOf types tags) allocations (wordsOf types t) (take (length memory - p) (drop p memory)))) where
+      (en : n ≡ headOf types t)
+      (ef : f ≡ firstFalse n 0 (placeMeets (tablesOf types tags) allocations (wordsOf types t) (take (length memory - p) (drop p memory)))) where
     first-unmet : f ≡ firstFalse n 0 (placeMeets (tablesOf types tags) allocations (wordsOf types t) (drop p memory))
     first-unmet = ef ∙ ap (λ (names : List ℕ). firstFalse n 0 (placeMeets (tablesOf types tags) allocations (wordsOf types t) names)) (tail-is memory p)
 
@@ -165,7 +166,8 @@ module _ (types tags allocations memory : List ℕ) (v : Verdict) (e : v ≡ ver
   pub memory-laid : v .number ≡ 0 → layoutAsk types tags allocations (length memory) ≡ ok tt
   memory-laid z = no-refusal _ v e z
 
-  pub memory-to-records : v .number ≡ 0 → verdictOf (recordsAsk (tablesOf types tags) allocations memory allocations 0) ≡ memoryCheck types tags allocations memory
+  pub memory-to-records : v .number ≡ 0
+      → verdictOf (recordsAsk (tablesOf types tags) allocations memory allocations 0) ≡ memoryCheck types tags allocations memory
   unfolding memoryCheck memoryAsk
   memory-to-records z = sym (then-on _ _ v e z)
 
@@ -260,6 +262,7 @@ module _ (types tags allocations memory blocks code : List ℕ) (b : ℕ) (regis
       entry-stop-routine h = then-stops _ _ v₂ e₂ h ∙ sym (then-on _ _ v₁ e₁ z₁) ∙ ap verdictOf (sym entry-is)
 
       pub entry-to-registers : v₂ .number ≡ 0
-          → verdictOf (firstNo 8 0 (registerAsk (tablesOf types tags) allocations (wordsOf blocks b) registers)) ≡ entryCheck types tags allocations memory blocks code b registers
+          → verdictOf (firstNo 8 0 (registerAsk (tablesOf types tags) allocations (wordsOf blocks b) registers))
+          ≡ entryCheck types tags allocations memory blocks code b registers
       unfolding entryCheck registersAsk
       entry-to-registers z₂ = sym (then-on _ _ v₁ e₁ z₁ ∙ then-on _ _ v₂ e₂ z₂) ∙ ap verdictOf (sym entry-is)

@@ -1,4 +1,4 @@
--- Laws of the crate.
+-- Laws of the crate: the table of owners, runs, meanings, the search for a word that is not met, and one law for each answer.
 pub mod Owners
 pub mod Runs
 pub mod Meanings

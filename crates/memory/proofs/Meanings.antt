@@ -113,7 +113,8 @@ module _ (𝒯 : Tables) (allocations owners : List ℕ) (I : Owned 𝒯 allocat
     meets-same h = rw (← ek, h, ← ex, ← ed)
 
     module _ (a : 6 ≤ k) (t : ℕ) (et : t ≡ recordOf w) (y : ℕ) (ey : y ≡ secondOf w) (e : ℕ) (ee : e ≡ wordOf u (depOf y)) where
-      span-of : (j : ℕ) → kindOf w ≡ suc (suc (suc (suc (suc (suc j))))) → runTest 𝒯 allocations t d e p and rankTest 𝒯 allocations j d e p ≡ meets 𝒯 allocations (typeOf w) u p
+      span-of : (j : ℕ) → kindOf w ≡ suc (suc (suc (suc (suc (suc j)))))
+          → runTest 𝒯 allocations t d e p and rankTest 𝒯 allocations j d e p ≡ meets 𝒯 allocations (typeOf w) u p
       unfolding typeOf meets
       span-of j h = rw (h, ← et, ← ex, ← ey, ← ed, ← ee)
 

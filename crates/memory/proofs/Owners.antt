@@ -24,7 +24,10 @@ pub entry-end : (t x : ℕ) → x < 65536 → ((t + 1) * 65536 + x) % 65536 ≡ 
 entry-end t x h = omega arith
 
 eqb-more : (a b : ℕ) → eqb a b ≡ eqb (a + 1) (b + 1)
-eqb-more a b = byEqual a b (λ e. eq-eqb a b e ∙ sym (eq-eqb _ _ (ap (λ (n : ℕ). n + 1) e))) (λ d. ne-eqb a b d ∙ sym (ne-eqb _ _ (λ (e : a + 1 ≡ b + 1). d (omega arith))))
+eqb-more a b =
+    byEqual a b
+    (λ e. eq-eqb a b e ∙ sym (eq-eqb _ _ (ap (λ (n : ℕ). n + 1) e)))
+    (λ d. ne-eqb a b d ∙ sym (ne-eqb _ _ (λ (e : a + 1 ≡ b + 1). d (omega arith))))
 
 no-type : (t : ℕ) → eqb (0 / 65536) (t + 1) ≡ false
 no-type t = ne-eqb (0 / 65536) (t + 1) (λ e. omega arith)
@@ -159,7 +162,8 @@ module _ (𝒯 : Tables) (top : ℕ) (high : top ≤ 16384) (positive : (t : ℕ
       ∙ ap (λ (n : ℕ). eqb (n / 65536) (t + 1)) (sym (there p u rest r low q x d)))
 
   -- the record at x is of the type of the row at the head
-  head-type : (p u : ℕ) (rest : List ℕ) (r low : ℕ) → rowsAsk 𝒯 top (p ∷ u ∷ rest) r low ≡ ok tt → (x t : ℕ) → x ≡ p → isAllocated (p ∷ u ∷ rest) x t ≡ true → t ≡ u
+  head-type : (p u : ℕ) (rest : List ℕ) (r low : ℕ) → rowsAsk 𝒯 top (p ∷ u ∷ rest) r low ≡ ok tt
+      → (x t : ℕ) → x ≡ p → isAllocated (p ∷ u ∷ rest) x t ≡ true → t ≡ u
   head-type p u rest r low q x t e a = sym (eqb-true u t (sym (allocated-here p u rest r low q t) ∙ (rw e at a)))
 
   ends-are : (l : List ℕ) (r low : ℕ) → rowsAsk 𝒯 top l r low ≡ ok tt → (x t : ℕ) → isAllocated l x t ≡ true

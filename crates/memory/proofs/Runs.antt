@@ -71,7 +71,8 @@ module _ (𝒯 : Tables) (allocations owners : List ℕ) (I : Owned 𝒯 allocat
       byTest (leb 1 ((e - d) / 𝒯 .size t))
       (λ q. let k = (e - d) / 𝒯 .size t in
       let i : suc (k - 1) ≡ k = omega (arith, leb-true 1 k q) in
-      starts-end (k - 1) (e - d) d e s (rw i (omega (arith, div-add-mod' (e - d) (𝒯 .size t)))) (omega (arith, div-le-self (e - d) (𝒯 .size t), leb-true 1 k q)) a)
+      starts-end (k - 1) (e - d) d e s (rw i (omega (arith, div-add-mod' (e - d) (𝒯 .size t))))
+      (omega (arith, div-le-self (e - d) (𝒯 .size t), leb-true 1 k q)) a)
       (λ q. let j : (e - d) / 𝒯 .size t ≡ 0 = omega (arith, leb-false 1 ((e - d) / 𝒯 .size t) q) in
       absurd (omega (arith, div-add-mod' (e - d) (𝒯 .size t), ap (λ (n : ℕ). n * 𝒯 .size t) j, zero-mul (𝒯 .size t))))
 

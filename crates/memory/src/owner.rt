@@ -11,6 +11,7 @@ const ADDRESSES: u32 = 16384;
 // An entry is 0 where no record starts. Else it has the record type + 1 above this place, and the end of the run below.
 const PLACE: u32 = 65536;
 
+// The entry of address x.
 fn owner(owners: &[u32; 16384], x: u32) -> u32
     ensures { λ r. ⌜ r ≡ ownerAt (now (owners .entry)) x ⌝ }
 {

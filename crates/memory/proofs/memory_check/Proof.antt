@@ -15,23 +15,23 @@ returns c = memory-stops _ _ _ _ _ (c .before .before .layout .ensures) (c .if1 
 fill-requires : tie.Need-fill-requires
 fill-requires c κs =
     let k = c .before in
-    let a = c .before .before .before in
-    let s = c .before .before .before .before .before .before .before .before in
+    let a = k .before .before in
+    let s = a .before .before .before .before .before in
     layout-placed _ _ _ _ (memory-laid _ _ _ (now (s .args .memory)) _ (a .layout .ensures) (k .if1 .left))
 
 records-requires : tie.Need-records-requires
 records-requires c κs =
     let f = c .before in
-    let k = c .before .before .before in
-    let a = c .before .before .before .before .before in
-    let s = c .before .before .before .before .before .before .before .before .before .before in
+    let k = f .before .before in
+    let a = k .before .before in
+    let s = a .before .before .before .before .before in
     let q = memory-laid _ _ _ (now (s .args .memory)) _ (a .layout .ensures) (k .if1 .left) in
     (q, layout-owned _ _ _ _ q 16384 _ refl (f .fill .ensures))
 
 returns-2 : tie.Need-returns-2
 returns-2 c =
     let k = c .before .before .before .before in
-    let a = c .before .before .before .before .before .before in
+    let a = k .before .before in
     c .records .ensures ∙ memory-to-records _ _ _ _ _ (a .layout .ensures) (k .if1 .left)
 
 pub memory-check-spec : {M : Type 1} → statement M

@@ -88,8 +88,8 @@ part-first-unmet-end c =
 first-unmet-requires : tie.Need-first-unmet-requires Inv-loop μ-loop
 first-unmet-requires c κs =
     let h = c .before in
-    let l = c .before .before .before .before .before .loop in
-    let s = c .before .before .before .before .before .before .before .before .before .before in
+    let l = h .before .before .before .before .loop in
+    let s = h .before .before .before .before .before .before .before .before .before in
     let r = layout-row _ _ _ _ (s .pre .0) (l .k) (omega arith) in (
       layout-sized _ _ _ _ (s .pre .0),
       omega (arith, r),
@@ -101,17 +101,18 @@ first-unmet-requires c κs =
 refused-requires : tie.Need-refused-requires Inv-loop μ-loop
 refused-requires c κs =
     let h = c .before .before .before in
-    let l = c .before .before .before .before .before .before .before .loop in
-    let s = c .before .before .before .before .before .before .before .before .before .before .before .before in
+    let l = h .before .before .before .before .loop in
+    let s = h .before .before .before .before .before .before .before .before .before in
     omega (arith, h .head .ensures, layout-rows _ _ _ _ (s .pre .0), layout-row _ _ _ _ (s .pre .0) (l .k) (omega arith))
 
 returns : tie.Need-returns Inv-loop μ-loop
 returns c =
     let m = c .before .before in
-    let h = c .before .before .before .before in
-    let l = c .before .before .before .before .before .before .before .before .loop in
-    let s = c .before .before .before .before .before .before .before .before .before .before .before .before .before in
-    c .refused .ensures ∙ records-stop _ _ (now (s .args .allocations)) (now (s .args .memory)) (l .k) _ (l .inv .0) (omega arith) _ _ _ _ refl refl (h .head .ensures) (m .first-unmet .ensures _ (s .pre .1)) (c .before .if1 .taken)
+    let h = m .before .before in
+    let l = h .before .before .before .before .loop in
+    let s = h .before .before .before .before .before .before .before .before .before in
+    c .refused .ensures ∙ records-stop _ _ (now (s .args .allocations)) (now (s .args .memory)) (l .k) _ (l .inv .0) (omega arith) _ _ _ _ refl refl
+    (h .head .ensures) (m .first-unmet .ensures _ (s .pre .1)) (omega arith)
 
 add-k : tie.Need-add-k Inv-loop μ-loop
 add-k c = omega arith
@@ -122,10 +123,13 @@ loop-less c = omega arith
 loop-again : tie.Need-loop-again Inv-loop μ-loop
 loop-again c =
     let m = c .before in
-    let h = c .before .before .before in
-    let l = c .before .before .before .before .before .before .before .loop in
-    let s = c .before .before .before .before .before .before .before .before .before .before .before .before in
-    (records-on _ _ (now (s .args .allocations)) (now (s .args .memory)) (l .k) _ (l .inv .0) (omega arith) _ _ _ _ refl refl (h .head .ensures) (m .first-unmet .ensures _ (s .pre .1)) (c .if1 .left), omega arith)
+    let h = m .before .before in
+    let l = h .before .before .before .before .loop in
+    let s = h .before .before .before .before .before .before .before .before .before in (
+      records-on _ _ (now (s .args .allocations)) (now (s .args .memory)) (l .k) _ (l .inv .0) (omega arith) _ _ _ _ refl refl
+          (h .head .ensures) (m .first-unmet .ensures _ (s .pre .1)) (omega arith),
+      omega arith,
+    )
 
 passed-requires : tie.Need-passed-requires Inv-loop μ-loop
 passed-requires c κs = tt

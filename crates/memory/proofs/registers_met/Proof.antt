@@ -1,5 +1,6 @@
 -- `memory::registers_met` meets its contract: the first register that does not meet its meaning, if any.
 use mathlib.Core.Path.{_∙_}
+use native.Mathlib.Omega.{arith}
 use Rattle.memory.proofs.Checks.{registers-stop, registers-pass}
 use borrow.Author.Needs.{needs}
 use Rattle.memory.proofs.registers_met.Statement.{statement}
@@ -17,7 +18,7 @@ refused-requires c κs = search needs
 returns : tie.Need-returns
 returns c = λ allocations I.
     let m = c .before .before in
-    c .refused .ensures ∙ registers-stop _ _ _ _ _ (m .first-unmet .ensures allocations I) (c .before .if1 .taken)
+    c .refused .ensures ∙ registers-stop _ _ _ _ _ (m .first-unmet .ensures allocations I) (omega arith)
 
 passed-requires : tie.Need-passed-requires
 passed-requires c κs = search needs
@@ -25,7 +26,7 @@ passed-requires c κs = search needs
 returns-2 : tie.Need-returns-2
 returns-2 c = λ allocations I.
     let m = c .before .before in
-    c .passed .ensures ∙ registers-pass _ _ _ _ _ (m .first-unmet .ensures allocations I) (c .before .if1 .left)
+    c .passed .ensures ∙ registers-pass _ _ _ _ _ (m .first-unmet .ensures allocations I) (omega arith)
 
 pub registers-met-spec : {M : Type 1} → statement M
 registers-met-spec =

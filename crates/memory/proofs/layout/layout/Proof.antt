@@ -21,8 +21,8 @@ types-requires c κs =
 returns-2 : tie.Need-returns-2
 returns-2 c =
     let b = c .before .before in
-    let k = c .before .before .before in
-    let a = c .before .before .before .before .before in
+    let k = b .before in
+    let a = k .before .before in
     layout-stop-types _ _ _ _ _ (a .type-lengths .ensures) (k .if1 .left) _ (b .types .ensures) (c .if2 .taken)
 
 memory-length-requires : tie.Need-memory-length-requires
@@ -31,11 +31,12 @@ memory-length-requires c κs = search needs
 returns-3 : tie.Need-returns-3
 returns-3 c =
     let d = c .before .before in
-    let m = c .before .before .before in
-    let b = c .before .before .before .before .before in
-    let k = c .before .before .before .before .before .before in
-    let a = c .before .before .before .before .before .before .before .before in
-    layout-stop-memory _ _ _ _ _ (a .type-lengths .ensures) (k .if1 .left) _ (b .types .ensures) (m .if2 .left) _ (d .memory-length .ensures) (c .if3 .taken)
+    let m = d .before in
+    let b = m .before .before in
+    let k = b .before in
+    let a = k .before .before in
+    layout-stop-memory _ _ _ _ _ (a .type-lengths .ensures) (k .if1 .left) _ (b .types .ensures) (m .if2 .left) _ (d .memory-length .ensures)
+    (c .if3 .taken)
 
 allocations-requires : tie.Need-allocations-requires
 allocations-requires c κs = search needs
@@ -43,13 +44,14 @@ allocations-requires c κs = search needs
 returns-4 : tie.Need-returns-4
 returns-4 c =
     let n = c .before in
-    let d = c .before .before .before in
-    let m = c .before .before .before .before in
-    let b = c .before .before .before .before .before .before in
-    let k = c .before .before .before .before .before .before .before in
-    let a = c .before .before .before .before .before .before .before .before .before in
+    let d = n .before .before in
+    let m = d .before in
+    let b = m .before .before in
+    let k = b .before in
+    let a = k .before .before in
     c .allocations .ensures _
-    ∙ layout-to-allocations _ _ _ _ _ (a .type-lengths .ensures) (k .if1 .left) _ (b .types .ensures) (m .if2 .left) _ (d .memory-length .ensures) (n .if3 .left)
+    ∙ layout-to-allocations _ _ _ _ _ (a .type-lengths .ensures) (k .if1 .left) _ (b .types .ensures) (m .if2 .left) _ (d .memory-length .ensures)
+    (n .if3 .left)
 
 pub layout-spec : {M : Type 1} → statement M
 layout-spec =

@@ -53,21 +53,22 @@ refused-requires c κs = omega arith
 returns : tie.Need-returns Inv-loop μ-loop
 returns c = λ tags.
     let b = c .before .before in
-    let l = c .before .before .before .before .before .before .loop in
-    let s = c .before .before .before .before .before .before .before .before .before in
+    let l = b .before .before .before .before .loop in
+    let s = b .before .before .before .before .before .before .before in
     c .refused .ensures
-    ∙ rows-stop _ tags (now (s .args .allocations)) _ (l .k) _ _ (l .inv .0 tags) (omega arith) _ _ refl refl (told-no (b .is-laid .ensures tags) (c .before .if1 .taken))
+    ∙ rows-stop _ tags (now (s .args .allocations)) _ (l .k) _ _ (l .inv .0 tags) (omega arith) _ _ refl refl
+    (told-no (b .is-laid .ensures tags) (c .before .if1 .taken))
 
 cast-low : tie.Need-cast-low Inv-loop μ-loop
 cast-low c =
     let g = c .before .before .before in
-    let l = c .before .before .before .before .before .loop in
+    let l = g .before .before .loop in
     omega (arith, g .shared-slice-known3 .given (l .k * 2))
 
 cast-head : tie.Need-cast-head Inv-loop μ-loop
 cast-head c =
     let g = c .before .before in
-    let l = c .before .before .before .before .before .loop in
+    let l = g .before .before .before .loop in
     omega (arith, g .shared-slice-known4 .given (l .k * 2 + 1))
 
 head-requires : tie.Need-head-requires Inv-loop μ-loop
@@ -79,7 +80,7 @@ cast-low-2 c = omega arith
 add-low : tie.Need-add-low Inv-loop μ-loop
 add-low c =
     let g = c .before .before .before .before in
-    let l = c .before .before .before .before .before .before .loop in
+    let l = g .before .before .loop in
     omega (arith, g .shared-slice-known3 .given (l .k * 2))
 
 add-k : tie.Need-add-k Inv-loop μ-loop
@@ -91,7 +92,7 @@ loop-less c = omega arith
 loop-again : tie.Need-loop-again Inv-loop μ-loop
 loop-again c =
     let b = c .before .before in
-    let l = c .before .before .before .before .before .before .loop in
+    let l = b .before .before .before .before .loop in
     let s = c .before .before .before .before .before .before .before .before .before in (
       λ tags. rows-on _ tags (now (s .args .allocations)) _ (l .k) _ _ (l .inv .0 tags) (omega arith) _ _ refl refl
           (told-yes (b .is-laid .ensures tags) (c .before .if1 .left)) _ (c .head .ensures),

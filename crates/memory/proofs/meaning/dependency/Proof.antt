@@ -7,7 +7,7 @@ use Rattle.memory.proofs.meaning.dependency.Statement.{statement}
 use Rattle.memory.proofs.meaning.dependency.Tie as tie
 
 returns : tie.Need-returns
-returns c = dependency-constant (now (c .before .args .names)) (c .before .args .x) (c .if1 .taken)
+returns c = dependency-constant (now (c .before .args .names)) (c .before .args .x) (omega arith)
 
 mul-result : tie.Need-mul-result
 mul-result c = search needs

@@ -38,16 +38,16 @@ shared-slice-read-is-met c = omega arith
 is-met-requires : tie.Need-is-met-requires Inv-loop μ-loop
 is-met-requires c κs =
     let w = c .before in
-    let l = c .before .before .before .loop in
-    let s = c .before .before .before .before .before .before .before .before in
+    let l = w .before .before .loop in
+    let s = w .before .before .before .before .before .before .before in
     (s .pre .0, legible _ _ _ _ _ (w .type-word .ensures) (s .pre .4 (l .i) (omega arith)) (omega arith))
 
 returns : tie.Need-returns Inv-loop μ-loop
 returns c = λ allocations I.
     let m = c .before in
-    let w = c .before .before .before in
-    let l = c .before .before .before .before .before .loop in
-    let s = c .before .before .before .before .before .before .before .before .before .before in
+    let w = m .before .before in
+    let l = w .before .before .loop in
+    let s = w .before .before .before .before .before .before .before in
     search-stops _ _ (l .i) _ (l .inv .0 allocations I) (omega arith)
     (told-no (place-is _ _ _ (now (s .args .names)) (l .i) _ _ (m .is-met .ensures allocations I) (w .type-word .ensures)) (c .if1 .taken))
 
@@ -60,8 +60,8 @@ loop-less c = omega arith
 loop-again : tie.Need-loop-again Inv-loop μ-loop
 loop-again c =
     let m = c .before in
-    let w = c .before .before .before in
-    let l = c .before .before .before .before .before .loop in
+    let w = m .before .before in
+    let l = w .before .before .loop in
     let s = c .before .before .before .before .before .before .before .before .before .before in (
       λ allocations I. search-on _ _ (l .i) _ (l .inv .0 allocations I) (omega arith)
           (told-yes (place-is _ _ _ (now (s .args .names)) (l .i) _ _ (m .is-met .ensures allocations I) (w .type-word .ensures)) (c .if1 .left)),

@@ -58,7 +58,8 @@ returns-5 c = λ tags allocations I.
     let b = c .before .before .before .before .before in
     let s = b .before .before .before .before in
     run-aligned _ _ _ _ I _ _ _ _ (omega arith) (s .pre .1 _ (s .pre .0)) (told-yes (b .before .starts .ensures) (b .if2 .left))
-    (omega (arith, c .before .before .before .before .run-end .ensures)) _ (c .before .before .head .ensures) (c .before .if4 .left) _ (c .difference .ensures)
+    (omega (arith, c .before .before .before .before .run-end .ensures)) _ (c .before .before .head .ensures) (c .before .if4 .left)
+    _ (c .difference .ensures)
 
 pub is-run-spec : {M : Type 1} → statement M
 is-run-spec =

@@ -95,7 +95,8 @@ loop-again : tie.Need-loop-again Inv-loop μ-loop
 loop-again c =
     let l = c .before .before .before .before .before .before .loop in
     let s = c .before .before .before .before .before .before .before .before .before in (
-      fill-row _ (now (s .args .allocations)) _ (l .k - 1) (l .k) _ (omega arith) (omega arith) (l .inv .0) _ _ _ _ refl refl (c .before .before .head .ensures) (c .entry .ensures),
+      fill-row _ (now (s .args .allocations)) _ (l .k - 1) (l .k) _ (omega arith) (omega arith) (l .inv .0) _ _ _ _ refl refl
+          (c .before .before .head .ensures) (c .entry .ensures),
       omega arith,
     )
 

@@ -1,0 +1,33 @@
+-- `fits::is_tag_or_beyond` meets its contract.
+use native.Mathlib.Omega.{arith}
+use denote.Ref.{now}
+use Rattle.fits.proofs.Answers.{beyond-none, beyond-past, beyond-is}
+use borrow.Author.Needs.{needs}
+use Rattle.fits.proofs.is_tag_or_beyond.Statement.{statement}
+use Rattle.fits.proofs.is_tag_or_beyond.Tie as tie
+
+returns : tie.Need-returns
+returns c = λ types. beyond-none types (now (c .before .args .tags)) (c .before .args .n) (c .before .args .t) (omega arith)
+
+sub-k : tie.Need-sub-k
+sub-k c = search needs
+
+cast-k : tie.Need-cast-k
+cast-k c = search needs
+
+returns-2 : tie.Need-returns-2
+returns-2 c = λ types. beyond-past types (now (c .before .before .args .tags)) (c .before .before .args .n) (c .before .before .args .t) (λ h. omega arith) (omega arith)
+
+mul-result : tie.Need-mul-result
+mul-result c = search needs
+
+shared-slice-read-result : tie.Need-shared-slice-read-result
+shared-slice-read-result c = search needs
+
+returns-3 : tie.Need-returns-3
+returns-3 c = λ types. beyond-is types (now (c .before .before .before .args .tags)) (c .before .before .before .args .n) (c .before .before .before .args .t) (λ h. omega arith) (omega arith)
+
+pub is-tag-or-beyond-spec : {M : Type 1} → statement M
+is-tag-or-beyond-spec =
+    tie.close
+    (tie.spec returns sub-k cast-k returns-2 mul-result shared-slice-read-result returns-3)

@@ -1,0 +1,72 @@
+-- `fits::row_fits` meets its contract. The invariant: the places from i on come to what all come to.
+use mathlib.Core.Path.{_≡_}
+use mathlib.Core.List.{List}
+use Prim.Native.Nat.{ℕ, _-_, _≤_}
+use native.Mathlib.Omega.{arith}
+use Rattle.model.specs.Question.{every}
+use Rattle.model.specs.Table.{tablesOf}
+use Rattle.model.specs.Reading.{rowFits}
+use Rattle.table.proofs.Questions.{told-no, told-yes, every-on, every-stops, every-end}
+use Rattle.fits.specs.Numbers.{valuesOf, placeFits}
+use Rattle.fits.proofs.Answers.{row-is, place-is}
+use Rattle.fits.proofs.row_fits.Statement.{statement}
+use Rattle.fits.proofs.row_fits.Tie as tie
+
+abbrev Inv-loop : tie.InvT-loop
+Inv-loop tags words frames constants tested equal n row names i₀ i = ((types : List ℕ) → rowFits (tablesOf types tags) (valuesOf words frames constants tested equal) n row names ≡ every (n - i) i (placeFits (tablesOf types tags) (valuesOf words frames constants tested equal) row names))
+    × (i ≤ n)
+
+abbrev μ-loop : tie.MeasureT-loop
+μ-loop tags words frames constants tested equal n row names i₀ i = n - i
+
+loop-holds : tie.Need-loop-holds Inv-loop μ-loop
+loop-holds c = (λ types. row-is _ _ _ _ _, omega arith)
+
+element-copy-out-value-fits : tie.Need-element-copy-out-value-fits Inv-loop μ-loop
+element-copy-out-value-fits c = omega arith
+
+mul-value-fits : tie.Need-mul-value-fits Inv-loop μ-loop
+mul-value-fits c = omega arith
+
+shared-slice-read-value-fits : tie.Need-shared-slice-read-value-fits Inv-loop μ-loop
+shared-slice-read-value-fits c = omega arith
+
+value-fits-requires : tie.Need-value-fits-requires Inv-loop μ-loop
+value-fits-requires c κs = tt
+
+returns : tie.Need-returns Inv-loop μ-loop
+returns c = let l = c .before .before .before .before .before .loop in
+    λ types. every-stops _ _ (l .i) _ (l .inv .0 types) (omega arith) (told-no (place-is _ _ _ _ _ _ (c .before .value-fits .ensures types)) (c .if1 .taken))
+
+add-i : tie.Need-add-i Inv-loop μ-loop
+add-i c = omega arith
+
+loop-less : tie.Need-loop-less Inv-loop μ-loop
+loop-less c = omega arith
+
+loop-again : tie.Need-loop-again Inv-loop μ-loop
+loop-again c = let l = c .before .before .before .before .before .loop in (
+  λ types. every-on _ _ (l .i) _ (l .inv .0 types) (omega arith) (told-yes (place-is _ _ _ _ _ _ (c .before .value-fits .ensures types)) (c .if1 .left)),
+  omega arith,
+)
+
+returns-2 : tie.Need-returns-2 Inv-loop μ-loop
+returns-2 c = let l = c .before .loop in
+    λ types. every-end _ _ (l .i) _ (l .inv .0 types) (omega arith)
+
+pub row-fits-spec : {M : Type 1} → statement M
+row-fits-spec =
+    tie.close
+    (tie.spec
+    Inv-loop
+    μ-loop
+    loop-holds
+    element-copy-out-value-fits
+    mul-value-fits
+    shared-slice-read-value-fits
+    value-fits-requires
+    returns
+    add-i
+    loop-less
+    loop-again
+    returns-2)

@@ -1,0 +1,224 @@
+-- A run: blocks up to a budget, and the opening questions.
+use mathlib.Core.Path.{_≡_, refl, sym, ap, _∙_}
+use mathlib.Core.Bool.{Bool, true, false}
+use mathlib.Core.List.{List}
+use Prim.Native.Nat.{ℕ, zero, suc, _+_, _-_, _<_, _≤_}
+use native.Mathlib.Nat.{zero-add, add-zero, sub-eq-zero-of-le}
+use native.Mathlib.Numerals.{add-one}
+use native.Mathlib.Omega.{arith}
+use lib.ListN.{length, take, drop, length-take, length-drop}
+use borrow.Author.Tests.{ne-eqb, lt-ltb, le-ltb, lt-leb, le-leb}
+use Rattle.model.specs.declared.Verdict.{Verdict}
+use Rattle.model.specs.Question.{_and_, Question, numberOf, q1, q8, q9, q16, q17, q18, q22, refusal, Outcome, ok, refused, ask, then, passed, refusing, verdictOf}
+use Rattle.model.specs.Table.{Routine, routineOf, startOf, headOf, rows, codeLengthsAsk, lengthsAsk}
+use Rattle.model.specs.Machine.{Instruction, plain, end, malformed, instructionAt, Next, stop, enter, next, State, Step, goes, halts, faults, need, leave, perform, step, Ran, halted, paused, faulted, onward, finish, steps, runBlocks, Run, answerOf, startAsk, memoryLengthAsk, runAsk, opened, run}
+use Rattle.model.proofs.Logic.{byEqual}
+use Rattle.model.proofs.BlockSound.{Sized}
+use Rattle.model.proofs.TableLaws.{sized}
+use Rattle.model.proofs.MachineLaws.{goes-halts, goes-faults, Placed, placed-here, placed-step, later, laterRan, blocks-later}
+use Rattle.model.proofs.RunCalls.{run-is}
+use Rattle.table.proofs.Questions.{left, no-refusal, then-on, then-stops}
+use Rattle.table.proofs.Laws.{start-more}
+use Rattle.machine.specs.declared.Exit.{Exit}
+use Rattle.machine.specs.declared.Exit.the-variants.{To, Halted, No}
+use Rattle.machine.specs.Answer.{at, questionOf, exitOf, Covers, ranOf}
+
+-- ---- the questions that instructions are asked
+
+-- no no of Q1
+NoFirst : Step → Type 0
+NoFirst x = (s : State) → x ≡ faults q1 s → ⊥
+
+module _ (P : Routine) where
+  need-asks : (b : Bool) (q : Question) (s : State) (k : Unit {0} → Step) → NoFirst (faults q s) → NoFirst (k tt) → NoFirst (need b q s k)
+  unfolding need
+  need-asks true q s k f g = g
+  need-asks false q s k f g = f
+
+  leave-asks : (s : State) (n : Next) → NoFirst (leave s n)
+  unfolding leave NoFirst
+  leave-asks s stop = λ t e. let z : _≡_ {A = ℕ} 0 1 = cc in omega arith
+  leave-asks s (enter b) = λ t e. let z : _≡_ {A = ℕ} 0 1 = cc in omega arith
+
+  perform-asks : (x : Instruction) (s : State) → NoFirst (perform P x s)
+  unfolding perform NoFirst
+  perform-asks malformed s = λ t e. let z : _≡_ {A = ℕ} 0 1 = cc in omega arith
+  perform-asks (plain x) s =
+      need-asks _ q8 s _ (λ t e. let z : _≡_ {A = ℕ} 0 1 = cc in omega arith)
+      (need-asks _ q18 s _ (λ t e. let z : _≡_ {A = ℕ} 0 1 = cc in omega arith) (λ t e. let z : _≡_ {A = ℕ} 0 1 = cc in omega arith))
+  perform-asks (end x) s =
+      need-asks _ q8 s _ (λ t e. let z : _≡_ {A = ℕ} 0 1 = cc in omega arith)
+      (need-asks _ q9 s _ (λ t e. let z : _≡_ {A = ℕ} 0 1 = cc in omega arith) (leave-asks s (next x (s .block) (s .registers))))
+
+  step-asks : (s : State) → NoFirst (step P s)
+  unfolding step NoFirst
+  step-asks s = need-asks _ q22 s _ (λ t e. let z : _≡_ {A = ℕ} 0 1 = cc in omega arith) (perform-asks (instructionAt P (s .block) (s .offset)) s)
+
+  steps-ask : (n : ℕ) (s : State) → NoFirst (steps P n s)
+  unfolding steps onward NoFirst
+  steps-ask zero s = λ t e. goes-faults e
+  steps-ask (suc n) s = go (step P s) (step-asks s) (λ s'. steps-ask n s')
+    where
+      go : (x : Step) → NoFirst x → ((s' : State) → NoFirst (steps P n s')) → NoFirst (onward x (λ s'. steps P n s'))
+      go (goes s') f g = g s'
+      go (halts s') f g = f
+      go (faults q s') f g = f
+
+asked-number : (n : ℕ) → (questionOf n ≡ q1 → ⊥) → numberOf (questionOf n) ≡ n
+unfolding questionOf
+asked-number n h =
+    byEqual n 7 (λ e. rw e)
+    (λ d7. byEqual n 8 (λ e. rw e)
+    (λ d8. byEqual n 9 (λ e. rw e)
+    (λ d9. byEqual n 18 (λ e. rw e)
+    (λ d18. absurd (h (rw (ne-eqb n 7 d7, ne-eqb n 8 d8, ne-eqb n 9 d9, ne-eqb n 18 d18)))))))
+
+-- ---- where a block's end leads
+
+-- the steps of a block that exists lead to a block that exists
+module _ (P : Routine) (S : Sized P) where
+  steps-placed : (n : ℕ) (s₀ s s' : State) → Placed P s₀ s → goes s' ≡ steps P n s → Placed P s₀ s'
+  unfolding steps onward
+  steps-placed zero s₀ s s' A e = let z : s' ≡ s = cc in rw z A
+  steps-placed (suc n) s₀ s s' A e = go (step P s) refl (λ t B. steps-placed n s₀ t s' B) e
+    where
+      go : (x : Step) → step P s ≡ x → ((t : State) → Placed P s₀ t → goes s' ≡ steps P n t → Placed P s₀ s') → goes s' ≡ onward x (λ t. steps P n t) → Placed P s₀ s'
+      go (goes t) p rest e = rest t (placed-step P S s₀ s t A p) e
+      go (halts t) p rest e = absurd (goes-halts e)
+      go (faults q t) p rest e = absurd (goes-faults e)
+
+-- ---- the part of a block
+
+module _ (blocks code : List ℕ) (q : lengthsAsk (routineOf blocks code) ≡ ok tt) where
+  pub bounds : (b : ℕ) → b < rows blocks → (1 ≤ headOf blocks b) × (startOf blocks b + headOf blocks b ≤ length code)
+  unfolding routineOf
+  bounds b h = let S = sized blocks code q in (S .least b h, S .inside b h)
+
+  pub covers : (b first past : ℕ) → b < rows blocks → first ≡ startOf blocks b → past ≡ startOf blocks (b + 1) → Covers (routineOf blocks code) b (take (past - first) (drop first code))
+  unfolding routineOf
+  covers b first past h e₁ e₂ =
+      let (l, k) = bounds b h in
+      let d : past - first ≡ headOf blocks b = omega (arith, start-more blocks b) in
+      rw (d, e₁) (record { same = refl; long = simp (length-take, length-drop) (omega arith); inside = k })
+
+  -- a block's end leads to a block of the table
+  pub leads-on : (n b j f c c' : ℕ) (r m r' m' : List ℕ) → b < rows blocks
+      → (x : Exit) → exitOf x (at b j r' m' f c') ≡ steps (routineOf blocks code) n (at b 0 r m f c) → (t : ℕ) → x ≡ To t → t < rows blocks
+  unfolding routineOf exitOf
+  leads-on n b j f c c' r m r' m' h x e t z =
+      let S = sized blocks code q in
+      steps-placed (routineOf blocks code) S n (at b 0 r m f c) (at b 0 r m f c) _ (placed-here (routineOf blocks code) S (at b 0 r m f c) h refl) (rw z at e) .exists
+
+-- ---- a run without the count of instructions
+
+abbrev pub uncounted : Run → Run
+uncounted a =
+    record { number = a .number; block = a .block; index = a .index; finished = a .finished; registers = a .registers; memory = a .memory; carried = 0 }
+
+-- an answer and the memory left
+abbrev pub ran : ℕ → ℕ → ℕ → ℕ → List ℕ → List ℕ → Run
+ran k b i f r m = record { number = k; block = b; index = i; finished = f; registers = r; memory = m; carried = 0 }
+
+module _ (P : Routine) where
+  -- k blocks from the first instruction of block b, with f finished
+  abbrev pub rest : ℕ → ℕ → List ℕ → List ℕ → ℕ → Run
+  rest k b r m f = uncounted (answerOf P (runBlocks P k (at b 0 r m f 0)))
+
+  later-same : (n : ℕ) (x : Ran) → uncounted (answerOf P (laterRan 0 n x)) ≡ uncounted (answerOf P x)
+  unfolding answerOf laterRan
+  later-same n (halted s) = rw (zero-add (s .finished))
+  later-same n (paused s) = rw (zero-add (s .finished))
+  later-same n (faulted q s) = rw (zero-add (s .finished))
+
+  carried-free : (k b f n : ℕ) (r m : List ℕ) → uncounted (answerOf P (runBlocks P k (at b 0 r m f n))) ≡ rest k b r m f
+  carried-free k b f n r m =
+      let e : at b 0 r m f n ≡ later 0 n (at b 0 r m f 0) = rw (zero-add f, add-zero n) in
+      rw e (ap (λ (x : Ran). uncounted (answerOf P x)) (blocks-later P 0 n k (at b 0 r m f 0)) ∙ later-same n (runBlocks P k (at b 0 r m f 0)))
+
+  -- one block of what is left of the budget
+  module _ (budget f b j n : ℕ) (r m r' m' : List ℕ) (h : f < budget) (x : Exit) (e : exitOf x (at b j r' m' f n) ≡ steps P (P .long b) (at b 0 r m f 0)) where
+    block-more : rest (budget - f) b r m f ≡ uncounted (answerOf P (finish (exitOf x (at b j r' m' f n)) (λ s. runBlocks P (budget - (f + 1)) s)))
+    unfolding runBlocks
+    block-more = rw (left budget f h, ← e)
+
+    pub run-on : (t : ℕ) → x ≡ To t → rest (budget - f) b r m f ≡ rest (budget - (f + 1)) t r' m' (f + 1)
+    unfolding finish exitOf
+    run-on t z = block-more ∙ rw (z, add-one f) (carried-free (budget - suc f) t (suc f) (suc n) r' m')
+
+    pub run-halts : (i : ℕ) → i ≡ P .start b + j → x ≡ Halted → ran 0 b i (f + 1) r' m' ≡ rest (budget - f) b r m f
+    unfolding finish exitOf answerOf
+    run-halts i ei z = sym (block-more ∙ rw (z, ei, add-one f))
+
+    pub run-faults : (i : ℕ) → i ≡ P .start b + j → (k : ℕ) → x ≡ No k → ran k b i f r' m' ≡ rest (budget - f) b r m f
+    unfolding finish exitOf answerOf NoFirst
+    run-faults i ei k z =
+        let y : numberOf (questionOf k) ≡ k = asked-number k (λ p. steps-ask P (P .long b) (at b 0 r m f 0) (at b j r' m' f n) (sym e ∙ rw (z, p))) in
+        sym (block-more ∙ rw (z, ei, y))
+
+  pub run-pauses : (budget f b i : ℕ) (r m : List ℕ) → budget ≤ f → i ≡ P .start b → ran 40 b i f r m ≡ rest (budget - f) b r m f
+  unfolding runBlocks answerOf
+  run-pauses budget f b i r m h ei = rw (sub-eq-zero-of-le h, ei, add-zero (P .start b))
+
+-- ---- Q17
+
+module _ (n : ℕ) where
+  pub memory-none : n < 1 → refusing (refusal q17 0 0) ≡ verdictOf (memoryLengthAsk n)
+  unfolding verdictOf memoryLengthAsk ask _and_
+  memory-none h = rw (lt-leb 1 n h)
+
+  pub memory-long : 1 ≤ n → 16384 < n → refusing (refusal q17 0 0) ≡ verdictOf (memoryLengthAsk n)
+  unfolding verdictOf memoryLengthAsk ask _and_
+  memory-long h l = rw (le-leb 1 n h, lt-leb n 16384 l)
+
+  pub memory-passes : 1 ≤ n → n ≤ 16384 → passed ≡ verdictOf (memoryLengthAsk n)
+  unfolding verdictOf memoryLengthAsk ask _and_
+  memory-passes h l = rw (le-leb 1 n h, le-leb n 16384 l)
+
+-- ---- the opening questions
+
+opened-no : (o : Outcome (Unit {0})) (P : Routine) (m : List ℕ) (b : ℕ) (r : List ℕ) (k : ℕ) (v : Verdict) → v ≡ verdictOf o → (v .number ≡ 0 → ⊥)
+    → ran (v .number) (v .first) (v .second) 0 r m ≡ uncounted (opened o P m b r k)
+unfolding verdictOf opened
+opened-no (ok u) P m b r k v e z = absurd (z (ap (λ (x : Verdict). x .number) e))
+opened-no (refused f) P m b r k v e z = rw e
+
+module _ (blocks code m : List ℕ) (b : ℕ) where
+  -- a run whose opening questions come to the verdict v
+  pub run-refused : (r : List ℕ) (k : ℕ) (v : Verdict) → v ≡ verdictOf (runAsk blocks code m b) → (v .number ≡ 0 → ⊥)
+      → ran (v .number) (v .first) (v .second) 0 r m ≡ uncounted (run blocks code m b r k)
+  unfolding run
+  run-refused r k v e z = opened-no (runAsk blocks code m b) (routineOf blocks code) m b r k v e z
+
+  module _ (v : Verdict) (e : v ≡ verdictOf (codeLengthsAsk (length blocks) (length code))) where
+    pub no-of-lengths : (v .number ≡ 0 → ⊥) → v ≡ verdictOf (runAsk blocks code m b)
+    unfolding runAsk
+    no-of-lengths z = then-stops _ _ v e z
+
+    module _ (z : v .number ≡ 0) (v' : Verdict) (e' : v' ≡ verdictOf (lengthsAsk (routineOf blocks code))) where
+      pub no-of-blocks : (v' .number ≡ 0 → ⊥) → v' ≡ verdictOf (runAsk blocks code m b)
+      unfolding runAsk
+      no-of-blocks z' = then-stops _ _ v' e' z' ∙ sym (then-on _ _ v e z)
+
+      module _ (z' : v' .number ≡ 0) where
+        to-start : verdictOf (runAsk blocks code m b) ≡ verdictOf (then (startAsk (routineOf blocks code) b) (λ _. memoryLengthAsk (length m)))
+        unfolding runAsk
+        to-start = then-on _ _ v e z ∙ then-on _ _ v' e' z'
+
+        pub no-of-start : rows blocks ≤ b → refusing (refusal q16 0 0) ≡ verdictOf (runAsk blocks code m b)
+        unfolding startAsk verdictOf ask then routineOf
+        no-of-start h = sym (to-start ∙ rw (le-ltb b (rows blocks) h))
+
+        module _ (h : b < rows blocks) (v'' : Verdict) (e'' : v'' ≡ verdictOf (memoryLengthAsk (length m))) where
+          pub no-of-memory : (v'' .number ≡ 0 → ⊥) → v'' ≡ verdictOf (runAsk blocks code m b)
+          unfolding startAsk ask then routineOf
+          no-of-memory z'' = e'' ∙ sym (to-start ∙ rw (lt-ltb b (rows blocks) h))
+
+          pub run-opens : (r : List ℕ) (k : ℕ) → v'' .number ≡ 0 → ranOf blocks code m b r k ≡ run blocks code m b r k
+          unfolding routineOf
+          run-opens r k z'' =
+              sym (run-is blocks code m b r k (record {
+                codeLengths = no-refusal _ v e z;
+                lengths = no-refusal _ v' e' z';
+                exists = h;
+                bound = no-refusal _ v'' e'' z'';
+              }))

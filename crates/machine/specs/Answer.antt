@@ -1,0 +1,43 @@
+-- How the answers of the functions read as the model's states and steps.
+use mathlib.Core.Path.{_≡_}
+use mathlib.Core.List.{List}
+use Prim.Native.Nat.{ℕ, suc, _+_, _≤_}
+use lib.Dec.{eqb}
+use lib.ListN.{length}
+use Rattle.model.specs.Question.{pick, Question, q1, q7, q8, q9, q18}
+use Rattle.model.specs.Table.{Routine, routineOf}
+use Rattle.model.specs.Machine.{State, Step, goes, halts, faults, atHalt, entering, runBlocks, Run, answerOf, begin}
+use Rattle.machine.specs.declared.Exit.{Exit}
+use Rattle.machine.specs.declared.Exit.the-variants.{To, Halted, No}
+
+-- block, offset, registers, memory, blocks finished, instructions carried out
+abbrev pub at : ℕ → ℕ → List ℕ → List ℕ → ℕ → ℕ → State
+at b j r m f n = record { block = b; offset = j; registers = r; memory = m; finished = f; carried = n }
+
+-- the question that an instruction was refused with, by its number; q1 is asked at no instruction
+unfoldable pub questionOf : ℕ → Question
+questionOf n = pick (eqb n 7) q7 (pick (eqb n 8) q8 (pick (eqb n 9) q9 (pick (eqb n 18) q18 q1)))
+
+-- number 0: gone on to the state s'; else a no in the state s
+unfoldable pub stepOf : ℕ → State → State → Step
+stepOf n s s' = pick (eqb n 0) (goes s') (faults (questionOf n) s)
+
+-- past the instruction of a state, which changed registers and memory before
+abbrev pub past : State → State
+past s = at (s .block) (suc (s .offset)) (s .registers) (s .memory) (s .finished) (suc (s .carried))
+
+-- the end of a block whose run came to the state s
+unfoldable pub exitOf : Exit → State → Step
+exitOf (To t) s = goes (entering s t)
+exitOf Halted s = halts (atHalt s)
+exitOf (No n) s = faults (questionOf n) s
+
+-- part is the code of block b, which lies inside the code
+pub record Covers (P : Routine) (b : ℕ) (part : List ℕ) : Type 0 where
+  pub same : P .part b ≡ part
+  pub long : P .long b ≡ length part
+  pub inside : P .start b + P .long b ≤ P .total
+
+-- what a run past its opening questions comes to
+abbrev pub ranOf : List ℕ → List ℕ → List ℕ → ℕ → List ℕ → ℕ → Run
+ranOf blocks code memory b registers budget = answerOf (routineOf blocks code) (runBlocks (routineOf blocks code) budget (begin b registers memory))

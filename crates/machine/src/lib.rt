@@ -1,0 +1,405 @@
+// The machine: one instruction, a block, and a run with its opening questions.
+ghost use mathlib.Core.Path.{_≡_};
+ghost use mathlib.Core.Bool.{true};
+ghost use mathlib.Core.List.{List};
+ghost use Prim.Native.Nat.{ℕ, suc, _+_, _-_, _/_, _<_, _≤_};
+ghost use lib.Dec.{ltb, eqb};
+ghost use lib.ListN.{length, getD, set};
+ghost use Rattle.model.specs.Question.{pick, ok, verdictOf};
+ghost use Rattle.model.specs.Word.{aOf, sum, signed, moved};
+ghost use Rattle.model.specs.Table.{Routine, routineOf, startOf, rows, lengthsAsk};
+ghost use Rattle.model.specs.Machine.{Plain, plain, decode, wellFormed, put, effect};
+ghost use Rattle.model.specs.Machine.{perform, steps, memoryLengthAsk, run, returned};
+ghost use Rattle.machine.specs.Answer.{at, stepOf, past, exitOf, Covers, ranOf};
+use model::RunAnswer;
+use model::Verdict;
+
+// How a block is left: to a block, by a halt, or with the number of a question that had a no.
+enum Exit {
+    To(u32),
+    Halted,
+    No(u32),
+}
+
+// Opcodes that are told apart by a test; past those before it the last of a function needs none.
+const HALT: u32 = 0;
+
+const CONSTANT: u32 = 1;
+
+const COPY: u32 = 2;
+
+const ADD: u32 = 3;
+
+const SUBTRACT: u32 = 4;
+
+const DIVIDE: u32 = 6;
+
+const MOVE: u32 = 7;
+
+const LOAD: u32 = 8;
+
+const JUMP: u32 = 10;
+
+const IF_EQUAL: u32 = 11;
+
+// The number of Q18.
+const OUT_OF_MEMORY: u32 = 18;
+
+// ---- one instruction
+
+// v where a is k, else the old word.
+fn chosen(a: usize, k: usize, v: u32, old: u32) -> u32
+    ensures { λ r. ⌜ r ≡ pick (eqb a k) v old ⌝ }
+{
+    if a == k {
+        return v;
+    }
+    old
+}
+
+// The registers with v at a, by eight choices: a store at a variable index would stall the copies that follow.
+fn with(registers: [u32; 8], a: usize, v: u32) -> [u32; 8]
+    ensures { λ r. ⌜ r ≡ set registers a v ⌝ }
+{
+    let r0 = chosen(a, 0, v, registers[0]);
+    let r1 = chosen(a, 1, v, registers[1]);
+    let r2 = chosen(a, 2, v, registers[2]);
+    let r3 = chosen(a, 3, v, registers[3]);
+    let r4 = chosen(a, 4, v, registers[4]);
+    let r5 = chosen(a, 5, v, registers[5]);
+    let r6 = chosen(a, 6, v, registers[6]);
+    let r7 = chosen(a, 7, v, registers[7]);
+    [r0, r1, r2, r3, r4, r5, r6, r7]
+}
+
+// x moved by c, which is read as a signed 16-bit number.
+fn moved_by(x: u32, c: u32) -> u32
+    requires { ⌜ c < 65536 ⌝ }
+    ensures { λ r. ⌜ r ≡ moved x (signed c) ⌝ }
+{
+    word::moved(x, word::signed(c))
+}
+
+// What opcodes 1 to 7 put in register a.
+fn value(registers: &[u32; 8], w: u32) -> u32
+    requires { ⌜ (wellFormed w ≡ true) × (0 < w / 16777216) × (w / 16777216 < 8) ⌝ }
+    ensures { λ r. ⌜ ((x : Plain) → decode w ≡ plain x → put (aOf w) r ≡ effect x (now (registers .entry))) ⌝ }
+{
+    let op = word::opcode(w);
+    let c = word::c(w);
+    if op == CONSTANT {
+        return c;
+    }
+    let x = registers[word::b(w)];
+    if op == COPY {
+        return x;
+    }
+    if op == DIVIDE {
+        return word::quotient(x, c);
+    }
+    if op == MOVE {
+        return moved_by(x, c);
+    }
+    let y = registers[c as usize];
+    if op == ADD {
+        return word::sum(x, y);
+    }
+    if op == SUBTRACT {
+        return word::difference(x, y);
+    }
+    word::product(x, y)
+}
+
+// The address of a load or store. Here c is not signed.
+fn address(base: u32, c: u32) -> usize
+    ensures { λ r. ⌜ r ≡ sum base c ⌝ }
+{
+    word::sum(base, c) as usize
+}
+
+// The number of the question that had a no, 0 where the instruction was carried out, and the registers after it.
+struct Stepped {
+    number: u32,
+    registers: [u32; 8],
+}
+
+// An instruction's answer.
+fn outcome(number: u32, registers: [u32; 8]) -> Stepped
+    ensures { λ r. ⌜ r ≡ record { number = number; registers = registers } ⌝ }
+{
+    Stepped { number, registers }
+}
+
+// An instruction that is not its block's last. It is not asked Q9, so it is of no account which block it is in.
+fn carry_out(registers: [u32; 8], memory: &mut [u32], w: u32) -> Stepped
+    ensures { λ r. ⌜ ((P : Routine) (b j f n : ℕ) → (suc j ≡ P .long b → ⊥)
+        → stepOf (r .number) (at b j (r .registers) (now (memory .exit)) f n) (past (at b j (r .registers) (now (memory .exit)) f n))
+        ≡ perform P (decode w) (at b j registers (now (memory .entry)) f n)) ⌝ }
+{
+    let no = instruction::form(w, false, 0, 0);
+    if no != 0 {
+        return outcome(no, registers);
+    }
+    let op = word::opcode(w);
+    let a = word::a(w);
+    if op < LOAD {
+        return outcome(0, with(registers, a, value(&registers, w)));
+    }
+    let x = address(registers[word::b(w)], word::c(w));
+    if memory.len() <= x {
+        return outcome(OUT_OF_MEMORY, registers);
+    }
+    if op == LOAD {
+        return outcome(0, with(registers, a, memory[x]));
+    }
+    memory[x] = registers[a];
+    outcome(0, registers)
+}
+
+// Comparisons are unsigned.
+fn less(x: u32, y: u32) -> bool
+    ensures { λ r. ⌜ r ≡ ltb x y ⌝ }
+{
+    x < y
+}
+
+// Which exit the block's last instruction takes. It leaves registers and memory as they are.
+fn leave(registers: &[u32; 8], w: u32, b: u32, count: u32) -> Exit
+    requires { ⌜ b < 4294967295 ⌝ }
+    ensures { λ r. ⌜ ((P : Routine) (j f n : ℕ) (m : List ℕ) → P .count ≡ count → suc j ≡ P .long b
+        → exitOf r (at b j (now (registers .entry)) m f n) ≡ perform P (decode w) (at b j (now (registers .entry)) m f n)) ⌝ }
+{
+    let no = instruction::form(w, true, b, count);
+    if no != 0 {
+        return Exit::No(no);
+    }
+    let op = word::opcode(w);
+    if op == HALT {
+        return Exit::Halted;
+    }
+    let c = word::c(w);
+    if op == JUMP {
+        return Exit::To(c);
+    }
+    let x = registers[word::a(w)];
+    if op == IF_EQUAL {
+        if x == c / 256 {
+            return Exit::To(c % 256);
+        }
+        return Exit::To(b + 1);
+    }
+    if less(x, registers[word::b(w)]) {
+        return Exit::To(c);
+    }
+    Exit::To(b + 1)
+}
+
+// ---- a block
+
+// The number of the question that had a no, 0 where there was none, the offset it came to, and the registers there.
+struct Passed {
+    number: u32,
+    at: usize,
+    registers: [u32; 8],
+}
+
+// A block's code up to its last instruction.
+fn body(part: &[u32], registers: [u32; 8], memory: &mut [u32]) -> Passed
+    requires { ⌜ 1 ≤ length (now part) ⌝ }
+    ensures steps { λ r. ⌜ ((P : Routine) (b f n : ℕ) → Covers P b (now (part .entry))
+        → stepOf (r .number) (at b (r .at) (r .registers) (now (memory .exit)) f (n + r .at)) (at b (r .at) (r .registers) (now (memory .exit)) f (n + r .at))
+        ≡ steps P (length (now (part .entry)) - 1) (at b 0 registers (now (memory .entry)) f n)) ⌝ }
+    ensures place { λ r. ⌜ (r .at < length (now (part .entry))) × (r .number ≡ 0 → suc (r .at) ≡ length (now (part .entry))) ⌝ }
+{
+    let last = part.len() - 1;
+    let mut current = registers;
+    let mut i = 0;
+    while i < last {
+        let s = carry_out(current, memory, part[i]);
+        let number = s.number;
+        let next = s.registers;
+        if number != 0 {
+            return Passed {
+                number,
+                at: i,
+                registers: next,
+            };
+        }
+        current = next;
+        i += 1;
+    }
+    Passed {
+        number: 0,
+        at: i,
+        registers: current,
+    }
+}
+
+// How a block was left, the offset of its last instruction carried out or refused, and the registers there.
+struct Ended {
+    exit: Exit,
+    at: usize,
+    registers: [u32; 8],
+}
+
+// A block, whose code is one part of the code table that starts at its first instruction.
+fn run_block(part: &[u32], registers: [u32; 8], memory: &mut [u32], b: u32, count: u32) -> Ended
+    requires { ⌜ (1 ≤ length (now part)) × (b < 4294967295) ⌝ }
+    ensures steps { λ r. ⌜ ((P : Routine) (f n : ℕ) → P .count ≡ count → Covers P b (now (part .entry))
+        → exitOf (r .exit) (at b (r .at) (r .registers) (now (memory .exit)) f (n + r .at))
+        ≡ steps P (P .long b) (at b 0 registers (now (memory .entry)) f n)) ⌝ }
+    ensures place { λ r. ⌜ r .at < length (now (part .entry)) ⌝ }
+{
+    let p = body(part, registers, memory);
+    let number = p.number;
+    let at = p.at;
+    let next = p.registers;
+    if number != 0 {
+        return Ended {
+            exit: Exit::No(number),
+            at,
+            registers: next,
+        };
+    }
+    let exit = leave(&next, part[at], b, count);
+    Ended {
+        exit,
+        at,
+        registers: next,
+    }
+}
+
+// ---- a run
+
+// Words of a row of the block table.
+const ROW_WORDS: usize = 9;
+
+// The most words of memory; at least there is one.
+const MOST_MEMORY: usize = 16384;
+
+// The numbers of a halt, of a pause and of the questions Q16 and Q17.
+const HALTED: u32 = 0;
+
+const PAUSED: u32 = 40;
+
+const START_BLOCK: u32 = 16;
+
+const MEMORY_LENGTH: u32 = 17;
+
+// A verdict at 0, 0.
+fn at_origin(number: u32) -> Verdict
+    ensures { λ r. ⌜ r ≡ record { number = number; first = 0; second = 0 } ⌝ }
+{
+    Verdict {
+        number,
+        first: 0,
+        second: 0,
+    }
+}
+
+// Q17.
+fn memory_length(n: usize) -> Verdict
+    ensures { λ r. ⌜ r ≡ verdictOf (memoryLengthAsk n) ⌝ }
+{
+    if n < 1 {
+        return at_origin(MEMORY_LENGTH);
+    }
+    if MOST_MEMORY < n {
+        return at_origin(MEMORY_LENGTH);
+    }
+    at_origin(0)
+}
+
+// A run's answer.
+fn answer(number: u32, block: u32, index: u32, finished: u64, registers: [u32; 8]) -> RunAnswer
+    ensures { λ r. ⌜ r ≡ record { number = number; block = block; index = index; finished = finished; registers = registers } ⌝ }
+{
+    RunAnswer {
+        number,
+        block,
+        index,
+        finished,
+        registers,
+    }
+}
+
+// A budget of blocks, from the first instruction of a block that exists; starts has where each block starts.
+fn run_blocks(
+    blocks: &[u32],
+    code: &[u32],
+    starts: &[u32; 257],
+    memory: &mut [u32],
+    block: u32,
+    registers: [u32; 8],
+    budget: u64,
+) -> RunAnswer
+    requires { ⌜ (lengthsAsk (routineOf (now blocks) (now code)) ≡ ok tt) × (length (now blocks) ≤ 2304) × (length (now code) ≤ 8192)
+        × (block < length (now blocks) / 9) × ((k : ℕ) → k ≤ rows (now blocks) → getD (now starts) k 0 ≡ startOf (now blocks) k) ⌝ }
+    ensures { λ r. ⌜ (r ≡ returned (ranOf (now (blocks .entry)) (now (code .entry)) (now (memory .entry)) block registers budget))
+        × (now (memory .exit) ≡ ranOf (now (blocks .entry)) (now (code .entry)) (now (memory .entry)) block registers budget .memory) ⌝ }
+{
+    let count = (blocks.len() / ROW_WORDS) as u32;
+    let mut b = block;
+    let mut current = registers;
+    let mut finished = 0;
+    while finished < budget {
+        let k = b as usize;
+        let first = starts[k] as usize;
+        let end = starts[k + 1] as usize;
+        let e = run_block(&code[first..end], current, memory, b, count);
+        let index = (first + e.at) as u32;
+        let exit = e.exit;
+        current = e.registers;
+        match exit {
+            Exit::To(t) => {
+                b = t;
+            }
+            Exit::Halted => {
+                return answer(HALTED, b, index, finished + 1, current);
+            }
+            Exit::No(n) => {
+                return answer(n, b, index, finished, current);
+            }
+        }
+        finished += 1;
+    }
+    answer(PAUSED, b, starts[b as usize], finished, current)
+}
+
+// A run refused before its first instruction.
+fn refused(v: Verdict, registers: [u32; 8]) -> RunAnswer
+    ensures { λ r. ⌜ r ≡ record { number = v .number; block = v .first; index = v .second; finished = 0; registers = registers } ⌝ }
+{
+    answer(v.number, v.first, v.second, 0, registers)
+}
+
+// A run of a budget of blocks from a start block, over any tables and memory.
+pub fn run(
+    blocks: &[u32],
+    code: &[u32],
+    memory: &mut [u32],
+    block: u32,
+    registers: [u32; 8],
+    budget: u64,
+) -> RunAnswer
+    ensures { λ r. ⌜ (r ≡ returned (run (now (blocks .entry)) (now (code .entry)) (now (memory .entry)) block registers budget))
+        × (now (memory .exit) ≡ run (now (blocks .entry)) (now (code .entry)) (now (memory .entry)) block registers budget .memory) ⌝ }
+{
+    let rows = table::code_lengths(blocks.len(), code.len());
+    if rows.number != 0 {
+        return refused(rows, registers);
+    }
+    let mut starts = [0u32; 257];
+    let lengths = table::lengths(blocks, code, &mut starts);
+    if lengths.number != 0 {
+        return refused(lengths, registers);
+    }
+    if blocks.len() / ROW_WORDS <= block as usize {
+        return refused(at_origin(START_BLOCK), registers);
+    }
+    let words = memory_length(memory.len());
+    if words.number != 0 {
+        return refused(words, registers);
+    }
+    run_blocks(blocks, code, &starts, memory, block, registers, budget)
+}
