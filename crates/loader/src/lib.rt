@@ -1,0 +1,63 @@
+// The four public calls, each with its whole contract and no requirement: check, memory check, entry check and run.
+// specs/Delivery.antt states demand 3 of any functions that meet these contracts, and proofs/Delivered.antt proves it.
+ghost use mathlib.Core.Path.{_≡_};
+ghost use Rattle.model.specs.Machine.{run, returned};
+ghost use Rattle.model.specs.Check.{check};
+ghost use Rattle.model.specs.MemoryCheck.{memoryCheck, entryCheck};
+use model::RunAnswer;
+use model::Verdict;
+
+// Whether a routine is accepted over a type and a tag table; else the number and place of the first question with a no.
+pub fn check(types: &[u32], tags: &[u32], blocks: &[u32], code: &[u32]) -> Verdict
+    ensures { λ r. ⌜ r ≡ check (now (types .entry)) (now (tags .entry)) (now (blocks .entry)) (now (code .entry)) ⌝ }
+{
+    verify::check(types, tags, blocks, code)
+}
+
+// Whether memory is in type: each field of each allocated record meets its meaning.
+pub fn memory_check(types: &[u32], tags: &[u32], allocations: &[u32], memory: &[u32]) -> Verdict
+    ensures { λ r. ⌜ r ≡ memoryCheck (now (types .entry)) (now (tags .entry)) (now (allocations .entry)) (now (memory .entry)) ⌝ }
+{
+    memory::memory_check(types, tags, allocations, memory)
+}
+
+// Whether registers are in type for a block of a routine, over these allocations.
+pub fn entry_check(
+    types: &[u32],
+    tags: &[u32],
+    allocations: &[u32],
+    memory: &[u32],
+    blocks: &[u32],
+    code: &[u32],
+    block: u32,
+    registers: [u32; 8],
+) -> Verdict
+    ensures { λ r. ⌜ r ≡ entryCheck (now (types .entry)) (now (tags .entry)) (now (allocations .entry)) (now (memory .entry))
+        (now (blocks .entry)) (now (code .entry)) block registers ⌝ }
+{
+    memory::entry_check(
+        types,
+        tags,
+        allocations,
+        memory,
+        blocks,
+        code,
+        block,
+        registers,
+    )
+}
+
+// A run of at most a budget of blocks; memory is left as the machine leaves it.
+pub fn run(
+    blocks: &[u32],
+    code: &[u32],
+    memory: &mut [u32],
+    block: u32,
+    registers: [u32; 8],
+    budget: u64,
+) -> RunAnswer
+    ensures { λ r. ⌜ (r ≡ returned (run (now (blocks .entry)) (now (code .entry)) (now (memory .entry)) block registers budget))
+        × (now (memory .exit) ≡ run (now (blocks .entry)) (now (code .entry)) (now (memory .entry)) block registers budget .memory) ⌝ }
+{
+    machine::run(blocks, code, memory, block, registers, budget)
+}

@@ -1,0 +1,250 @@
+-- Laws of a block read to its end, of all blocks, and of the check.
+use mathlib.Core.Path.{_≡_, refl, sym, ap, _∙_}
+use mathlib.Core.Bool.{Bool, true, false, not}
+use mathlib.Core.List.{List, [], _∷_, map}
+use Prim.Native.Nat.{ℕ, zero, suc, _+_, _-_, _*_, _%_, _<_, _≤_}
+use native.Mathlib.Numerals.{add-one}
+use native.Mathlib.Nat.{sub-zero, add-sub-cancel-left}
+use native.Mathlib.Omega.{arith}
+use lib.Dec.{ltb, eqb}
+use lib.ListN.{length, getD, set, take, drop, replicate, length-take, length-drop, length-set}
+use borrow.Author.Tests.{eq-eqb, ne-eqb, eqb-true}
+use Rattle.model.specs.declared.Verdict.{Verdict}
+use Rattle.model.specs.declared.Reference.{Reference}
+use Rattle.model.specs.Question.{_and_, pick, every, Question, numberOf, Refusal, refusal, Outcome, ok, refused, ask, then, firstNo, passed, refusing, verdictOf}
+use Rattle.model.specs.Table.{Tables, tablesOf, Routine, routineOf, rows, headOf, wordsOf, startOf, typeLengthsAsk, codeLengthsAsk, typesAsk, lengthsAsk, annotationsAsk}
+use Rattle.model.specs.Machine.{Plain, constant, copy, add, subtract, multiply, divide, move, load, store, End, Instruction, plain, end, malformed, decode, targetsExist}
+use Rattle.model.specs.Reading.{Values, Reading, isOpen, seen, laidAt, zeros, upFrom, entry, fresh, viewed, viewedBefore, look, loaded, stored}
+use Rattle.model.specs.Check.{valueIn, onRecord, readPlain, readEdges, noAt, lastAt, readInstruction, readAt, readOn, blockAsk, judge, checkAsk, check}
+use Rattle.model.proofs.Logic.{byTest, byEqual, byLess, pick-both, every-true, ok-same, not-ok}
+use Rattle.model.proofs.Lists.{length-upFrom}
+use Rattle.model.proofs.Inversion.{record-ok}
+use Rattle.table.proofs.Questions.{left, no-refusal, then-on, then-stops, first-on}
+use Rattle.fits.specs.Numbers.{framesOf, valuesOf}
+use Rattle.verify.proofs.Steps.{size-past}
+use Rattle.verify.specs.State.{viewsOf, reading, questionOf, numbered, earlyAsk, lastAsk}
+
+-- ---- numbers
+
+-- the number of a question is its number
+all-numbers : every 15 1 (λ k. eqb (numberOf (questionOf k)) k) ≡ true
+unfolding every questionOf _and_
+all-numbers = refl
+
+pub number-of : (z : ℕ) → (z ≡ 0 → ⊥) → z ≤ 15 → numberOf (questionOf z) ≡ z
+number-of z n h = eqb-true _ _ (every-true 15 1 (λ k. eqb (numberOf (questionOf k)) k) all-numbers z (omega arith) (omega arith))
+
+abbrev pub verdict : ℕ → ℕ → ℕ → Verdict
+verdict n b i = record { number = n; first = b; second = i }
+
+-- what follows a numbered outcome
+module _ {A : Type 0} (place : Question → Refusal) (z : ℕ) (a : A) where
+  numbered-ok : z ≡ 0 → numbered place z a ≡ ok a
+  unfolding numbered
+  numbered-ok e = rw e
+
+  numbered-no : (z ≡ 0 → ⊥) → numbered place z a ≡ refused (place (questionOf z))
+  unfolding numbered
+  numbered-no n = at-suc z n
+    where
+      at-suc : (k : ℕ) → (k ≡ 0 → ⊥) → numbered place k a ≡ refused (place (questionOf k))
+      at-suc zero n = absurd (n refl)
+      at-suc (suc k) n = refl
+
+-- ---- one instruction of a block
+
+module _ (𝒯 : Tables) (P : Routine) (b j : ℕ) where
+  early-is : lastAt 𝒯 P b j ≡ false → (i : Instruction) (st : Reading) → readInstruction 𝒯 P b j i st ≡ earlyAsk 𝒯 (noAt 𝒯 P b j) (suc j) i st
+  unfolding readInstruction earlyAsk ask
+  early-is e malformed st = refl
+  early-is e (plain x) st = rw e
+  early-is e (end x) st = rw e
+
+  after-edges : (o : Outcome (Unit {0})) (st : Reading) → then (then o (λ _. ok st)) (λ (_ : Reading). ok tt) ≡ o
+  unfolding then
+  after-edges (ok u) st = refl
+  after-edges (refused r) st = refl
+
+  last-is : lastAt 𝒯 P b j ≡ true → (i : Instruction) (st : Reading)
+      → then (readInstruction 𝒯 P b j i st) (λ st'. readOn 𝒯 P b 0 (suc j) st') ≡ lastAsk 𝒯 P (noAt 𝒯 P b j) b i st
+  unfolding readInstruction lastAsk ask then readOn
+  last-is e malformed st = refl
+  last-is e (plain x) st = rw e
+  last-is e (end x) st =
+      byTest (targetsExist (P .count) b x)
+      (λ p. byTest (isOpen st) (λ q. rw (e, p, q)) (λ q. rw (e, p, q) (after-edges (readEdges 𝒯 P (noAt 𝒯 P b j) (suc b) x st) st)))
+      (λ p. rw (e, p))
+
+module _ (𝒯 : Tables) (P : Routine) (b n j : ℕ) (st : Reading) (w : ℕ) (en : n ≡ P .long b) (ew : w ≡ getD (P .part b) j 0) (z : ℕ) where
+  -- before the last
+  module _ (h : j + 1 < n) (st′ : Reading) (es : (place : Question → Refusal) → numbered place z st′ ≡ earlyAsk 𝒯 place (j + 1) (decode w) st) where
+    not-last : lastAt 𝒯 P b j ≡ false
+    not-last = ne-eqb (suc j) (P .long b) (λ e. omega arith)
+
+    at : readAt 𝒯 P b j st ≡ numbered (noAt 𝒯 P b j) z st′
+    at = early-is 𝒯 P b j not-last (decode (getD (P .part b) j 0)) st ∙ rw (← ew, ← add-one j, es (noAt 𝒯 P b j))
+
+    pub read-on : z ≡ 0 → readOn 𝒯 P b (n - j) j st ≡ readOn 𝒯 P b (n - (j + 1)) (j + 1) st′
+    unfolding readOn then
+    read-on e = rw (left n j (omega arith), at, numbered-ok (noAt 𝒯 P b j) z st′ e, add-one j)
+
+    pub read-stops : (z ≡ 0 → ⊥) → z ≤ 15 → verdict z b (P .start b + j) ≡ verdictOf (readOn 𝒯 P b (n - j) j st)
+    unfolding readOn then verdictOf
+    read-stops e l = rw (left n j (omega arith), at, numbered-no (noAt 𝒯 P b j) z st′ e, number-of z e l)
+
+  -- the last
+  module _ (h : j + 1 ≡ n) (es : (place : Question → Refusal) → numbered place z tt ≡ lastAsk 𝒯 P place b (decode w) st) where
+    is-last : lastAt 𝒯 P b j ≡ true
+    is-last = eq-eqb (suc j) (P .long b) (omega arith)
+
+    one-left : n - j ≡ 1
+    one-left = omega arith
+
+    whole : readOn 𝒯 P b (n - j) j st ≡ numbered (noAt 𝒯 P b j) z tt
+    unfolding readOn
+    whole = rw one-left (last-is 𝒯 P b j is-last (decode (getD (P .part b) j 0)) st ∙ rw (← ew, es (noAt 𝒯 P b j)))
+
+    pub read-ends : z ≡ 0 → verdict 0 0 0 ≡ verdictOf (readOn 𝒯 P b (n - j) j st)
+    unfolding verdictOf
+    read-ends e = rw (whole, numbered-ok (noAt 𝒯 P b j) z (tt {0}) e)
+
+    pub read-refuses : (z ≡ 0 → ⊥) → z ≤ 15 → verdict z b (P .start b + j) ≡ verdictOf (readOn 𝒯 P b (n - j) j st)
+    unfolding verdictOf
+    read-refuses e l = rw (whole, numbered-no (noAt 𝒯 P b j) z (tt {0}) e, number-of z e l)
+
+-- ---- the fields at hand stay eight
+
+eight-look : (𝒯 : Tables) (st : Reading) (g v t : ℕ) → length (st .fields) ≡ 8 → length (look 𝒯 st g v t .fields) ≡ 8
+unfolding look viewed
+eight-look 𝒯 st g v t e =
+    pick-both (λ (x : Reading). length (x .fields) ≡ 8) (isOpen st) _ _ (λ q. e)
+    (λ q. pick-both (λ (x : Reading). length (x .fields) ≡ 8) (seen st v) _ _ (λ p. length-upFrom _ 8) (λ p. length-upFrom _ 8))
+
+eight-plain : (𝒯 : Tables) (place : Question → Refusal) (g : ℕ) (x : Plain) (st st′ : Reading) → length (st .fields) ≡ 8
+    → readPlain 𝒯 place g x st ≡ ok st′ → length (st′ .fields) ≡ 8
+unfolding readPlain fresh loaded stored
+eight-plain 𝒯 place g (constant a c) st st′ e q = rw (← ok-same q) e
+eight-plain 𝒯 place g (copy a b) st st′ e q = rw (← ok-same q) e
+eight-plain 𝒯 place g (add a b c) st st′ e q = rw (← ok-same q) e
+eight-plain 𝒯 place g (subtract a b c) st st′ e q = rw (← ok-same q) e
+eight-plain 𝒯 place g (multiply a b c) st st′ e q = rw (← ok-same q) e
+eight-plain 𝒯 place g (divide a b c) st st′ e q = rw (← ok-same q) e
+eight-plain 𝒯 place g (move a b c) st st′ e q = rw (← ok-same q) e
+eight-plain 𝒯 place g (load a b c) st st′ e q =
+    let R = record-ok 𝒯 place st b c st′ _ q in rw (← ok-same (R .rest)) (eight-look 𝒯 st g (valueIn st b) (R .type) e)
+eight-plain 𝒯 place g (store a b c) st st′ e q =
+    let R = record-ok 𝒯 place st b c st′ _ q in
+    rw (← ok-same (R .rest)) (length-set (look 𝒯 st g (valueIn st b) (R .type) .fields) c (valueIn st a) ∙ eight-look 𝒯 st g (valueIn st b) (R .type) e)
+
+pub eight-early : (𝒯 : Tables) (g : ℕ) (i : Instruction) (st st′ : Reading) (z : ℕ) → ((place : Question → Refusal) → numbered place z st′ ≡ earlyAsk 𝒯 place g i st)
+    → z ≡ 0 → length (st .fields) ≡ 8 → length (st′ .fields) ≡ 8
+unfolding earlyAsk
+eight-early 𝒯 g i st st′ z es ez e = go i (sym (es anywhere) ∙ numbered-ok anywhere z st′ ez)
+  where
+    anywhere : Question → Refusal
+    anywhere q = refusal q 0 0
+
+    go : (i : Instruction) → earlyAsk 𝒯 anywhere g i st ≡ ok st′ → length (st′ .fields) ≡ 8
+    go malformed q = absurd (not-ok q)
+    go (plain x) q = eight-plain 𝒯 anywhere g x st st′ e q
+    go (end x) q = absurd (not-ok q)
+
+-- ---- a block
+
+no-frames : (n : ℕ) → framesOf (replicate n 0) ≡ zeros n
+unfolding framesOf zeros
+no-frames zero = refl
+no-frames (suc n) = ap {B = List ℕ} (λ (r : List ℕ). 0 ∷ r) (no-frames n)
+
+no-views : (n : ℕ) → viewsOf (replicate n 0) ≡ zeros n
+unfolding viewsOf zeros
+no-views zero = refl
+no-views (suc n) = ap {B = List ℕ} (λ (r : List ℕ). 0 ∷ r) (no-views n)
+
+module _ (types tags blocks code : List ℕ) (b n : ℕ) (en : n ≡ headOf blocks b) where
+  -- the reading that the locals of the block's function make as its loop begins
+  pub block-begins : (words : List ℕ) → words ≡ laidAt (replicate 256 0) 0 (wordsOf blocks b)
+      → blockAsk (tablesOf types tags) (routineOf blocks code) b
+      ≡ readOn (tablesOf types tags) (routineOf blocks code) b (n - 0) 0
+      (reading (0 ∷ 1 ∷ 2 ∷ 3 ∷ 4 ∷ 5 ∷ 6 ∷ 7 ∷ []) words (replicate 32 0) (replicate 32 0) (replicate 256 0) (replicate 8 0) 0 256)
+  unfolding blockAsk entry routineOf zeros upFrom
+  block-begins words ew = rw (ew, en, sub-zero, no-frames 32, no-views 256)
+
+module _ (blocks code : List ℕ) (b n : ℕ) (en : n ≡ headOf blocks b) where
+  pub long-is : n ≡ routineOf blocks code .long b
+  unfolding routineOf
+  long-is = en
+
+  module _ (first : ℕ) (ef : first ≡ startOf blocks b) where
+    pub part-of : (j : ℕ) → getD (take (first + n - first) (drop first code)) j 0 ≡ getD (routineOf blocks code .part b) j 0
+    unfolding routineOf
+    part-of j = rw (add-sub-cancel-left first n, en, ef)
+
+    pub at-start : (z j : ℕ) (v : Verdict) → v ≡ verdict z b (first + j) → (r : Verdict) → verdict z b (routineOf blocks code .start b + j) ≡ r → v ≡ r
+    unfolding routineOf
+    at-start z j v e r er = e ∙ rw ef er
+
+    pub part-long : first + n ≤ length code → length (take (first + n - first) (drop first code)) ≡ n
+    part-long h = simp (length-take, length-drop) (omega arith)
+
+-- ---- all blocks
+
+module _ (types tags blocks code : List ℕ) where
+  abbrev pub judged : Outcome (Unit {0})
+  judged = judge (tablesOf types tags) (routineOf blocks code)
+
+  pub judge-begins : judged ≡ firstNo (rows blocks - 0) 0 (blockAsk (tablesOf types tags) (routineOf blocks code))
+  unfolding judge routineOf
+  judge-begins = rw sub-zero
+
+  module _ (b : ℕ) (e : judged ≡ firstNo (rows blocks - b) b (blockAsk (tablesOf types tags) (routineOf blocks code))) (h : b < rows blocks)
+      (v : Verdict) (ev : v ≡ verdictOf (blockAsk (tablesOf types tags) (routineOf blocks code) b)) where
+    pub judge-on : v .number ≡ 0 → judged ≡ firstNo (rows blocks - (b + 1)) (b + 1) (blockAsk (tablesOf types tags) (routineOf blocks code))
+    judge-on z = first-on _ (rows blocks) b judged e h (no-refusal _ v ev z)
+
+    pub judge-stops : (v .number ≡ 0 → ⊥) → v ≡ verdictOf judged
+    unfolding firstNo
+    judge-stops n =
+        then-stops (blockAsk (tablesOf types tags) (routineOf blocks code) b)
+        (λ _. firstNo (rows blocks - (b + 1)) (suc b) (blockAsk (tablesOf types tags) (routineOf blocks code))) v ev n
+        ∙ ap (λ (o : Outcome (Unit {0})). verdictOf o) (sym (e ∙ rw (left (rows blocks) b h)))
+
+-- ---- the check
+
+-- every size is at most 8: past the table it is 0
+pub sizes-small : (types : List ℕ) → length types % 9 ≡ 0 → ((t : ℕ) → t < rows types → (1 ≤ headOf types t) × (headOf types t ≤ 8)) → (t : ℕ) → headOf types t ≤ 8
+sizes-small types e h t =
+    byLess t (rows types) (λ l. h t l .1) (λ l. let z : 0 ≡ headOf types t = size-past types t (omega arith) in omega arith)
+
+module _ (types tags blocks code : List ℕ) (v₁ : Verdict) (e₁ : v₁ ≡ verdictOf (typeLengthsAsk (length types) (length tags))) where
+  pub check-1 : (v₁ .number ≡ 0 → ⊥) → v₁ ≡ check types tags blocks code
+  unfolding check checkAsk
+  check-1 n = then-stops _ _ v₁ e₁ n
+
+  module _ (z₁ : v₁ .number ≡ 0) (v₂ : Verdict) (e₂ : v₂ ≡ verdictOf (codeLengthsAsk (length blocks) (length code))) where
+    pub check-2 : (v₂ .number ≡ 0 → ⊥) → v₂ ≡ check types tags blocks code
+    unfolding check checkAsk
+    check-2 n = then-stops _ _ v₂ e₂ n ∙ sym (then-on _ _ v₁ e₁ z₁)
+
+    module _ (z₂ : v₂ .number ≡ 0) (v₃ : Verdict) (e₃ : v₃ ≡ verdictOf (typesAsk (tablesOf types tags))) where
+      pub check-3 : (v₃ .number ≡ 0 → ⊥) → v₃ ≡ check types tags blocks code
+      unfolding check checkAsk
+      check-3 n = then-stops _ _ v₃ e₃ n ∙ sym (then-on _ _ v₂ e₂ z₂) ∙ sym (then-on _ _ v₁ e₁ z₁)
+
+      module _ (z₃ : v₃ .number ≡ 0) (v₄ : Verdict) (e₄ : v₄ ≡ verdictOf (lengthsAsk (routineOf blocks code))) where
+        pub check-4 : (v₄ .number ≡ 0 → ⊥) → v₄ ≡ check types tags blocks code
+        unfolding check checkAsk
+        check-4 n = then-stops _ _ v₄ e₄ n ∙ sym (then-on _ _ v₃ e₃ z₃) ∙ sym (then-on _ _ v₂ e₂ z₂) ∙ sym (then-on _ _ v₁ e₁ z₁)
+
+        module _ (z₄ : v₄ .number ≡ 0) (v₅ : Verdict) (e₅ : v₅ ≡ verdictOf (annotationsAsk (tablesOf types tags) (routineOf blocks code))) where
+          pub check-5 : (v₅ .number ≡ 0 → ⊥) → v₅ ≡ check types tags blocks code
+          unfolding check checkAsk
+          check-5 n =
+              then-stops _ _ v₅ e₅ n ∙ sym (then-on _ _ v₄ e₄ z₄) ∙ sym (then-on _ _ v₃ e₃ z₃) ∙ sym (then-on _ _ v₂ e₂ z₂)
+              ∙ sym (then-on _ _ v₁ e₁ z₁)
+
+          pub check-6 : v₅ .number ≡ 0 → verdictOf (judge (tablesOf types tags) (routineOf blocks code)) ≡ check types tags blocks code
+          unfolding check checkAsk
+          check-6 z₅ =
+              sym (then-on _ _ v₅ e₅ z₅) ∙ sym (then-on _ _ v₄ e₄ z₄) ∙ sym (then-on _ _ v₃ e₃ z₃) ∙ sym (then-on _ _ v₂ e₂ z₂)
+              ∙ sym (then-on _ _ v₁ e₁ z₁)

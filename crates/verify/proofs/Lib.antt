@@ -1,0 +1,4 @@
+-- Laws of the crate: one for each way out of a function.
+pub mod Steps
+pub mod Ends
+pub mod Blocks

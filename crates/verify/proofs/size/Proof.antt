@@ -1,0 +1,26 @@
+-- `verify::size` meets its contract.
+use native.Mathlib.Omega.{arith}
+use borrow.Author.Needs.{needs}
+use Rattle.table.proofs.Laws.{tables-size, tables-words}
+use Rattle.verify.proofs.Steps.{laid-on, laid-end, laid-start, names-all, name-at, size-past, size-at, fresh-is, divides-one, divides-two, divides-four, divides-eight, divides-other, moved-other, moved-not, moved-on, look-open, look-seen, look-born, touch-free, touch-own, plain-constant, plain-copy, plain-move, plain-load, plain-store, store-closes, store-holds, touch-offset, touch-other, touch-load, touch-store, access-nothing, access-on, step-copy, step-constant, step-move, step-arithmetic, part-is, part-length, row-words}
+use borrow.Author.Needs.{needs}
+use Rattle.verify.proofs.size.Statement.{statement}
+use Rattle.verify.proofs.size.Tie as tie
+
+mul-at : tie.Need-mul-at
+mul-at c = search needs
+
+returns : tie.Need-returns
+returns c = (size-past _ _ (omega arith), λ h. omega arith)
+
+mul-result : tie.Need-mul-result
+mul-result c = search needs
+
+shared-slice-read-result : tie.Need-shared-slice-read-result
+shared-slice-read-result c = search needs
+
+returns-2 : tie.Need-returns-2
+returns-2 c = (size-at _ _, λ h. omega arith)
+
+pub size-spec : {M : Type 1} → statement M
+size-spec = tie.close (tie.spec mul-at returns mul-result shared-slice-read-result returns-2)
