@@ -36,7 +36,10 @@ known-tag-or-beyond-requires : tie.Need-known-tag-or-beyond-requires
 known-tag-or-beyond-requires c κs = search needs
 
 returns-3 : tie.Need-returns-3
-returns-3 c = λ types. maybe-tagged _ _ _ _ _ _ _ _ _ (c .before .before .before .before .before .before .kind .ensures .0) _ _ _ (c .before .before .before .frame .ensures .0) (c .before .before .first-dependency .ensures .0) (c .before .sibling .ensures) (omega arith) _ (c .known-tag-or-beyond .ensures types _)
+returns-3 c =
+    λ types. maybe-tagged _ _ _ _ _ _ _ _ _ (c .before .before .before .before .before .before .kind .ensures .0) _ _ _
+    (c .before .before .before .frame .ensures .0) (c .before .before .first-dependency .ensures .0) (c .before .sibling .ensures)
+    (omega arith) _ (c .known-tag-or-beyond .ensures types _)
 
 pub is-maybe-spec : {M : Type 1} → statement M
 is-maybe-spec =

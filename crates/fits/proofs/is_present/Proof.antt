@@ -27,7 +27,10 @@ known-equal-requires : tie.Need-known-equal-requires
 known-equal-requires c κs = search needs
 
 returns : tie.Need-returns
-returns c = λ types. present-present _ _ _ _ _ _ _ _ _ (c .before .before .before .before .before .kind .ensures .0) _ _ _ (c .before .before .before .frame .ensures .0) (c .before .before .first-dependency .ensures .0) (c .before .sibling .ensures) (omega arith) _ (c .known-equal .ensures)
+returns c =
+    λ types. present-present _ _ _ _ _ _ _ _ _ (c .before .before .before .before .before .kind .ensures .0) _ _ _
+    (c .before .before .before .frame .ensures .0) (c .before .before .first-dependency .ensures .0) (c .before .sibling .ensures)
+    (omega arith) _ (c .known-equal .ensures)
 
 record-type-requires : tie.Need-record-type-requires
 record-type-requires c κs = search needs
@@ -36,10 +39,14 @@ known-tag-requires : tie.Need-known-tag-requires
 known-tag-requires c κs = search needs
 
 returns-2 : tie.Need-returns-2
-returns-2 c = λ types. present-ref _ _ _ _ _ _ _ _ _ (c .before .before .before .before .kind .ensures .0) _ (c .before .record-type .ensures .0) _ (c .known-tag .ensures types _) (omega arith)
+returns-2 c =
+    λ types. present-ref _ _ _ _ _ _ _ _ _ (c .before .before .before .before .kind .ensures .0) _ (c .before .record-type .ensures .0) _
+    (c .known-tag .ensures types _) (omega arith)
 
 returns-3 : tie.Need-returns-3
-returns-3 c = λ types. present-other _ _ _ _ _ _ _ _ _ (c .before .before .before .kind .ensures .0) (λ h. omega arith) (λ h. omega arith) (λ h. omega arith)
+returns-3 c =
+    λ types. present-other _ _ _ _ _ _ _ _ _ (c .before .before .before .kind .ensures .0) (λ h. omega arith) (λ h. omega arith)
+    (λ h. omega arith)
 
 record-type-requires-2 : tie.Need-record-type-requires-2
 record-type-requires-2 c κs = search needs
@@ -48,7 +55,9 @@ known-tag-requires-2 : tie.Need-known-tag-requires-2
 known-tag-requires-2 c κs = search needs
 
 returns-4 : tie.Need-returns-4
-returns-4 c = λ types. present-in _ _ _ _ _ _ _ _ _ (c .before .before .before .before .before .kind .ensures .0) _ (c .before .record-type2 .ensures .0) _ (c .known-tag2 .ensures types _) (omega arith)
+returns-4 c =
+    λ types. present-in _ _ _ _ _ _ _ _ _ (c .before .before .before .before .before .kind .ensures .0) _
+    (c .before .record-type2 .ensures .0) _ (c .known-tag2 .ensures types _) (omega arith)
 
 pub is-present-spec : {M : Type 1} → statement M
 is-present-spec =

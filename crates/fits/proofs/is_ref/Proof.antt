@@ -27,7 +27,9 @@ returns-2 : tie.Need-returns-2
 returns-2 c = λ types. ref-in _ _ _ _ _ _ _ _ _ (c .before .before .before .kind .ensures .0) (omega arith) _ (c .record-type2 .ensures .0)
 
 returns-3 : tie.Need-returns-3
-returns-3 c = λ types. ref-other _ _ _ _ _ _ _ _ _ (c .before .before .before .kind .ensures .0) (λ h. omega arith) (λ h. omega arith) (λ h. omega arith)
+returns-3 c =
+    λ types. ref-other _ _ _ _ _ _ _ _ _ (c .before .before .before .kind .ensures .0) (λ h. omega arith) (λ h. omega arith)
+    (λ h. omega arith)
 
 frame-requires : tie.Need-frame-requires
 frame-requires c κs = search needs
@@ -42,7 +44,10 @@ known-tag-requires : tie.Need-known-tag-requires
 known-tag-requires c κs = search needs
 
 returns-4 : tie.Need-returns-4
-returns-4 c = λ types. ref-present _ _ _ _ _ _ _ _ _ (c .before .before .before .before .before .before .before .kind .ensures .0) _ _ _ (c .before .before .before .frame .ensures .0) (c .before .before .first-dependency .ensures .0) (c .before .sibling .ensures) (omega arith) _ (c .known-tag .ensures types _)
+returns-4 c =
+    λ types. ref-present _ _ _ _ _ _ _ _ _ (c .before .before .before .before .before .before .before .kind .ensures .0) _ _ _
+    (c .before .before .before .frame .ensures .0) (c .before .before .first-dependency .ensures .0) (c .before .sibling .ensures)
+    (omega arith) _ (c .known-tag .ensures types _)
 
 pub is-ref-spec : {M : Type 1} → statement M
 is-ref-spec =

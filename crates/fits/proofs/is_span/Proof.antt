@@ -21,7 +21,9 @@ kind-requires-2 : tie.Need-kind-requires-2
 kind-requires-2 c κs = search needs
 
 returns : tie.Need-returns
-returns c = λ types tags. span-below _ _ _ _ _ _ _ (c .before .before .before .before .args .w) (now (c .before .before .before .before .args .names)) (omega arith) _ _ refl (c .before .before .kind .ensures .0) (omega arith)
+returns c =
+    λ types tags. span-below _ _ _ _ _ _ _ (c .before .before .before .before .args .w) (now
+    (c .before .before .before .before .args .names)) (omega arith) _ _ refl (c .before .before .kind .ensures .0) (omega arith)
 
 record-type-requires : tie.Need-record-type-requires
 record-type-requires c κs = search needs
@@ -30,7 +32,11 @@ record-type-requires-2 : tie.Need-record-type-requires-2
 record-type-requires-2 c κs = search needs
 
 returns-2 : tie.Need-returns-2
-returns-2 c = λ types tags. span-record _ _ _ _ _ _ _ (c .before .before .before .before .before .before .before .args .w) (now (c .before .before .before .before .before .before .before .args .names)) (omega arith) _ _ refl (c .before .before .before .before .before .kind .ensures .0) (omega arith) _ _ (c .before .before .record-type .ensures .0) (c .before .record-type2 .ensures .0) (c .if2 .taken)
+returns-2 c =
+    λ types tags. span-record _ _ _ _ _ _ _ (c .before .before .before .before .before .before .before .args .w) (now
+    (c .before .before .before .before .before .before .before .args .names)) (omega arith) _ _ refl
+    (c .before .before .before .before .before .kind .ensures .0) (omega arith) _ _ (c .before .before .record-type .ensures .0)
+    (c .before .record-type2 .ensures .0) (c .if2 .taken)
 
 frame-requires : tie.Need-frame-requires
 frame-requires c κs = search needs
@@ -51,7 +57,18 @@ known-equal-requires : tie.Need-known-equal-requires
 known-equal-requires c κs = search needs
 
 returns-3 : tie.Need-returns-3
-returns-3 c = λ types tags. span-first _ _ _ _ _ _ _ (c .before .before .before .before .before .before .before .before .before .before .before .before .before .before .args .w) (now (c .before .before .before .before .before .before .before .before .before .before .before .before .before .before .args .names)) (omega arith) _ _ refl (c .before .before .before .before .before .before .before .before .before .before .before .before .kind .ensures .0) (omega arith) _ _ (c .before .before .before .before .before .before .before .before .before .record-type .ensures .0) (c .before .before .before .before .before .before .before .before .record-type2 .ensures .0) (omega arith) _ (c .before .before .before .before .before .before .frame .ensures .0) _ _ _ _ (c .before .before .before .before .before .first-dependency .ensures .0) (c .before .before .before .before .sibling .ensures) (c .before .before .before .first-dependency2 .ensures .0) (c .before .before .named .ensures) (told-no (c .before .known-equal .ensures) (c .if3 .taken))
+returns-3 c =
+    λ types tags. span-first _ _ _ _ _ _ _
+    (c .before .before .before .before .before .before .before .before .before .before .before .before .before .before .args .w) (now
+    (c .before .before .before .before .before .before .before .before .before .before .before .before .before .before .args .names))
+    (omega arith) _ _ refl
+    (c .before .before .before .before .before .before .before .before .before .before .before .before .kind .ensures .0) (omega arith) _ _
+    (c .before .before .before .before .before .before .before .before .before .record-type .ensures .0)
+    (c .before .before .before .before .before .before .before .before .record-type2 .ensures .0) (omega arith) _
+    (c .before .before .before .before .before .before .frame .ensures .0) _ _ _ _
+    (c .before .before .before .before .before .first-dependency .ensures .0) (c .before .before .before .before .sibling .ensures)
+    (c .before .before .before .first-dependency2 .ensures .0) (c .before .before .named .ensures) (told-no
+    (c .before .known-equal .ensures) (c .if3 .taken))
 
 second-dependency-requires : tie.Need-second-dependency-requires
 second-dependency-requires c κs = search needs
@@ -69,7 +86,9 @@ known-equal-requires-2 : tie.Need-known-equal-requires-2
 known-equal-requires-2 c κs = search needs
 
 returns-4 : tie.Need-returns-4
-returns-4 c = λ types tags. span-second _ _ _ _ _ _ _ (c .before .before .before .before .before .before .before .before .before .before .before .before .before .before .before .before .before .before .before .args .w) (now (c .before .before .before .before .before .before .before .before .before .before .before .before .before .before .before .before .before .before .before .args .names)) (omega arith) _ _ refl (c .before .before .before .before .before .before .before .before .before .before .before .before .before .before .before .before .before .kind .ensures .0) (omega arith) _ _ (c .before .before .before .before .before .before .before .before .before .before .before .before .before .before .record-type .ensures .0) (c .before .before .before .before .before .before .before .before .before .before .before .before .before .record-type2 .ensures .0) (omega arith) _ (c .before .before .before .before .before .before .before .before .before .before .before .frame .ensures .0) _ _ _ _ (c .before .before .before .before .before .before .before .before .before .before .first-dependency .ensures .0) (c .before .before .before .before .before .before .before .before .before .sibling .ensures) (c .before .before .before .before .before .before .before .before .first-dependency2 .ensures .0) (c .before .before .before .before .before .before .before .named .ensures) (told-yes (c .before .before .before .before .before .before .known-equal .ensures) (c .before .before .before .before .before .if3 .left)) _ _ _ _ (c .before .before .before .before .second-dependency .ensures .0) (c .before .before .before .sibling2 .ensures) (c .before .before .second-dependency2 .ensures .0) (c .before .named2 .ensures) _ (c .known-equal2 .ensures)
+returns-4 c =
+    λ types tags. span-second _ _ _ _ _ _ _
+    (c .before .before .before .before .before .before .before .before .before .before .before .before .before .before .before .before .before .before .before .args .w) (now (c .before .before .before .before .before .before .before .before .before .before .before .before .before .before .before .before .before .before .before .args .names)) (omega arith) _ _ refl (c .before .before .before .before .before .before .before .before .before .before .before .before .before .before .before .before .before .kind .ensures .0) (omega arith) _ _ (c .before .before .before .before .before .before .before .before .before .before .before .before .before .before .record-type .ensures .0) (c .before .before .before .before .before .before .before .before .before .before .before .before .before .record-type2 .ensures .0) (omega arith) _ (c .before .before .before .before .before .before .before .before .before .before .before .frame .ensures .0) _ _ _ _ (c .before .before .before .before .before .before .before .before .before .before .first-dependency .ensures .0) (c .before .before .before .before .before .before .before .before .before .sibling .ensures) (c .before .before .before .before .before .before .before .before .first-dependency2 .ensures .0) (c .before .before .before .before .before .before .before .named .ensures) (told-yes (c .before .before .before .before .before .before .known-equal .ensures) (c .before .before .before .before .before .if3 .left)) _ _ _ _ (c .before .before .before .before .second-dependency .ensures .0) (c .before .before .before .sibling2 .ensures) (c .before .before .second-dependency2 .ensures .0) (c .before .named2 .ensures) _ (c .known-equal2 .ensures)
 
 pub is-span-spec : {M : Type 1} → statement M
 is-span-spec =

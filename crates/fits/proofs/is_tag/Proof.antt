@@ -16,7 +16,9 @@ cast-k : tie.Need-cast-k
 cast-k c = search needs
 
 returns-2 : tie.Need-returns-2
-returns-2 c = λ types. tag-past types (now (c .before .before .args .tags)) (c .before .before .args .n) (c .before .before .args .t) (λ h. omega arith) (omega arith)
+returns-2 c =
+    λ types. tag-past types (now (c .before .before .args .tags)) (c .before .before .args .n) (c .before .before .args .t)
+    (λ h. omega arith) (omega arith)
 
 mul-result : tie.Need-mul-result
 mul-result c = search needs
@@ -25,7 +27,9 @@ shared-slice-read-result : tie.Need-shared-slice-read-result
 shared-slice-read-result c = search needs
 
 returns-3 : tie.Need-returns-3
-returns-3 c = λ types. tag-is types (now (c .before .before .before .args .tags)) (c .before .before .before .args .n) (c .before .before .before .args .t) (λ h. omega arith) (omega arith)
+returns-3 c =
+    λ types. tag-is types (now (c .before .before .before .args .tags)) (c .before .before .before .args .n)
+    (c .before .before .before .args .t) (λ h. omega arith) (omega arith)
 
 pub is-tag-spec : {M : Type 1} → statement M
 is-tag-spec =

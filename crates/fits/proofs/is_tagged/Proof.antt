@@ -28,7 +28,10 @@ known-equal-requires : tie.Need-known-equal-requires
 known-equal-requires c κs = search needs
 
 returns : tie.Need-returns
-returns c = λ types. tagged-tagged _ _ _ _ _ _ _ _ _ (c .before .before .before .before .before .kind .ensures .0) _ _ _ (c .before .before .before .frame .ensures .0) (c .before .before .first-dependency .ensures .0) (c .before .sibling .ensures) (omega arith) _ (c .known-equal .ensures)
+returns c =
+    λ types. tagged-tagged _ _ _ _ _ _ _ _ _ (c .before .before .before .before .before .kind .ensures .0) _ _ _
+    (c .before .before .before .frame .ensures .0) (c .before .before .first-dependency .ensures .0) (c .before .sibling .ensures)
+    (omega arith) _ (c .known-equal .ensures)
 
 record-type-requires : tie.Need-record-type-requires
 record-type-requires c κs = search needs
@@ -37,13 +40,17 @@ known-tag-requires : tie.Need-known-tag-requires
 known-tag-requires c κs = search needs
 
 returns-2 : tie.Need-returns-2
-returns-2 c = λ types. tagged-maybe _ _ _ _ _ _ _ _ _ (c .before .before .before .before .kind .ensures .0) _ (c .before .record-type .ensures .0) _ (c .known-tag .ensures types _) (omega arith)
+returns-2 c =
+    λ types. tagged-maybe _ _ _ _ _ _ _ _ _ (c .before .before .before .before .kind .ensures .0) _ (c .before .record-type .ensures .0) _
+    (c .known-tag .ensures types _) (omega arith)
 
 is-present-requires : tie.Need-is-present-requires
 is-present-requires c κs = search needs
 
 returns-3 : tie.Need-returns-3
-returns-3 c = λ types. c .is-present .ensures types ∙ tagged-other _ _ _ _ _ _ _ _ _ (c .before .before .before .kind .ensures .0) (λ h. omega arith) (λ h. omega arith)
+returns-3 c =
+    λ types. c .is-present .ensures types ∙ tagged-other _ _ _ _ _ _ _ _ _ (c .before .before .before .kind .ensures .0) (λ h. omega arith)
+    (λ h. omega arith)
 
 pub is-tagged-spec : {M : Type 1} → statement M
 is-tagged-spec =

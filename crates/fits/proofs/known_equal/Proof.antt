@@ -19,25 +19,31 @@ share-requires : tie.Need-share-requires
 share-requires c κs = search needs
 
 returns-2 : tie.Need-returns-2
-returns-2 c = let k = c .before .before in
-    equal-shared _ _ _ (λ h. omega arith) _ _ (k .before .constants-of .ensures _) (k .constants-of2 .ensures _) (sym (c .before .share .ensures) ∙ c .if2 .taken)
+returns-2 c =
+    let k = c .before .before in
+    equal-shared _ _ _ (λ h. omega arith) _ _ (k .before .constants-of .ensures _) (k .constants-of2 .ensures _) (sym
+    (c .before .share .ensures) ∙ c .if2 .taken)
 
 says-same-requires : tie.Need-says-same-requires
 says-same-requires c κs = search needs
 
 returns-3 : tie.Need-returns-3
-returns-3 c = let m = c .before .before in
+returns-3 c =
+    let m = c .before .before in
     let k = m .before .before in
-    equal-left _ _ _ (λ h. omega arith) _ _ (k .before .constants-of .ensures _) (k .constants-of2 .ensures _) (sym (m .before .share .ensures) ∙ m .if2 .left) (sym (c .before .says-same .ensures _ _ _) ∙ c .if3 .taken)
+    equal-left _ _ _ (λ h. omega arith) _ _ (k .before .constants-of .ensures _) (k .constants-of2 .ensures _) (sym
+    (m .before .share .ensures) ∙ m .if2 .left) (sym (c .before .says-same .ensures _ _ _) ∙ c .if3 .taken)
 
 says-same-requires-2 : tie.Need-says-same-requires-2
 says-same-requires-2 c κs = search needs
 
 returns-4 : tie.Need-returns-4
-returns-4 c = let l = c .before in
+returns-4 c =
+    let l = c .before in
     let m = l .before .before in
     let k = m .before .before in
-    equal-right _ _ _ (λ h. omega arith) _ _ (k .before .constants-of .ensures _) (k .constants-of2 .ensures _) (sym (m .before .share .ensures) ∙ m .if2 .left) (sym (l .before .says-same .ensures _ _ _) ∙ l .if3 .left) _ (c .says-same2 .ensures _ _ _)
+    equal-right _ _ _ (λ h. omega arith) _ _ (k .before .constants-of .ensures _) (k .constants-of2 .ensures _) (sym
+    (m .before .share .ensures) ∙ m .if2 .left) (sym (l .before .says-same .ensures _ _ _) ∙ l .if3 .left) _ (c .says-same2 .ensures _ _ _)
 
 pub known-equal-spec : {M : Type 1} → statement M
 known-equal-spec =

@@ -26,10 +26,13 @@ record-type-requires-2 : tie.Need-record-type-requires-2
 record-type-requires-2 c κs = search needs
 
 returns-2 : tie.Need-returns-2
-returns-2 c = λ types. reference-in _ _ _ _ _ _ _ 0 _ (c .before .before .before .kind .ensures .0) (omega arith) _ (c .record-type2 .ensures .0)
+returns-2 c =
+    λ types. reference-in _ _ _ _ _ _ _ 0 _ (c .before .before .before .kind .ensures .0) (omega arith) _ (c .record-type2 .ensures .0)
 
 returns-3 : tie.Need-returns-3
-returns-3 c = λ types. reference-other _ _ _ _ _ _ _ 0 _ (c .before .before .before .kind .ensures .0) (λ h. omega arith) (λ h. omega arith) (λ h. omega arith)
+returns-3 c =
+    λ types. reference-other _ _ _ _ _ _ _ 0 _ (c .before .before .before .kind .ensures .0) (λ h. omega arith) (λ h. omega arith)
+    (λ h. omega arith)
 
 frame-requires : tie.Need-frame-requires
 frame-requires c κs = search needs
@@ -47,7 +50,11 @@ first-tag-requires : tie.Need-first-tag-requires
 first-tag-requires c κs = search needs
 
 returns-4 : tie.Need-returns-4
-returns-4 c = λ types. reference-present _ _ _ _ _ _ _ 0 _ (c .before .before .before .before .before .before .before .before .kind .ensures .0) _ _ _ (c .before .before .before .before .frame .ensures .0) (c .before .before .before .first-dependency .ensures .0) (c .before .before .sibling .ensures) (omega arith) _ (c .first-tag .ensures types ∙ ap (firstTag _) (c .before .constants-of .ensures _))
+returns-4 c =
+    λ types. reference-present _ _ _ _ _ _ _ 0 _ (c .before .before .before .before .before .before .before .before .kind .ensures .0) _ _ _
+    (c .before .before .before .before .frame .ensures .0) (c .before .before .before .first-dependency .ensures .0)
+    (c .before .before .sibling .ensures) (omega arith) _ (c .first-tag .ensures types ∙ ap (firstTag _)
+    (c .before .constants-of .ensures _))
 
 pub reference-spec : {M : Type 1} → statement M
 reference-spec =

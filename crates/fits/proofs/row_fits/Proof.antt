@@ -13,7 +13,9 @@ use Rattle.fits.proofs.row_fits.Statement.{statement}
 use Rattle.fits.proofs.row_fits.Tie as tie
 
 abbrev Inv-loop : tie.InvT-loop
-Inv-loop tags words frames constants tested equal n row names i₀ i = ((types : List ℕ) → rowFits (tablesOf types tags) (valuesOf words frames constants tested equal) n row names ≡ every (n - i) i (placeFits (tablesOf types tags) (valuesOf words frames constants tested equal) row names))
+Inv-loop tags words frames constants tested equal n row names i₀ i =
+    ((types : List ℕ) → rowFits (tablesOf types tags) (valuesOf words frames constants tested equal) n row names ≡ every (n - i) i
+    (placeFits (tablesOf types tags) (valuesOf words frames constants tested equal) row names))
     × (i ≤ n)
 
 abbrev μ-loop : tie.MeasureT-loop
@@ -35,8 +37,10 @@ value-fits-requires : tie.Need-value-fits-requires Inv-loop μ-loop
 value-fits-requires c κs = tt
 
 returns : tie.Need-returns Inv-loop μ-loop
-returns c = let l = c .before .before .before .before .before .loop in
-    λ types. every-stops _ _ (l .i) _ (l .inv .0 types) (omega arith) (told-no (place-is _ _ _ _ _ _ (c .before .value-fits .ensures types)) (c .if1 .taken))
+returns c =
+    let l = c .before .before .before .before .before .loop in
+    λ types. every-stops _ _ (l .i) _ (l .inv .0 types) (omega arith) (told-no (place-is _ _ _ _ _ _ (c .before .value-fits .ensures types))
+    (c .if1 .taken))
 
 add-i : tie.Need-add-i Inv-loop μ-loop
 add-i c = omega arith
@@ -45,13 +49,16 @@ loop-less : tie.Need-loop-less Inv-loop μ-loop
 loop-less c = omega arith
 
 loop-again : tie.Need-loop-again Inv-loop μ-loop
-loop-again c = let l = c .before .before .before .before .before .loop in (
-  λ types. every-on _ _ (l .i) _ (l .inv .0 types) (omega arith) (told-yes (place-is _ _ _ _ _ _ (c .before .value-fits .ensures types)) (c .if1 .left)),
-  omega arith,
-)
+loop-again c =
+    let l = c .before .before .before .before .before .loop in (
+      λ types. every-on _ _ (l .i) _ (l .inv .0 types) (omega arith) (told-yes (place-is _ _ _ _ _ _ (c .before .value-fits .ensures types))
+          (c .if1 .left)),
+      omega arith,
+    )
 
 returns-2 : tie.Need-returns-2 Inv-loop μ-loop
-returns-2 c = let l = c .before .loop in
+returns-2 c =
+    let l = c .before .loop in
     λ types. every-end _ _ (l .i) _ (l .inv .0 types) (omega arith)
 
 pub row-fits-spec : {M : Type 1} → statement M

@@ -30,7 +30,9 @@ sibling-requires : tie.Need-sibling-requires
 sibling-requires c κs = search needs
 
 returns-3 : tie.Need-returns-3
-returns-3 c = λ constants tested equal. says-same _ _ constants tested equal _ _ (omega arith) (omega arith) _ (c .before .before .frame .ensures .0) _ _ (c .before .first-dependency .ensures .0) (c .sibling .ensures)
+returns-3 c =
+    λ constants tested equal. says-same _ _ constants tested equal _ _ (omega arith) (omega arith) _
+    (c .before .before .frame .ensures .0) _ _ (c .before .first-dependency .ensures .0) (c .sibling .ensures)
 
 pub says-same-spec : {M : Type 1} → statement M
 says-same-spec =

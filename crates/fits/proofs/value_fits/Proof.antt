@@ -35,7 +35,10 @@ known-equal-requires : tie.Need-known-equal-requires
 known-equal-requires c κs = search needs
 
 returns-4 : tie.Need-returns-4
-returns-4 c = λ types. fits-same _ _ _ _ (now (c .before .before .before .before .before .before .before .before .before .args .names)) _ (c .before .before .before .before .before .before .before .kind .ensures .0) _ _ (c .before .before .first-dependency .ensures .0) (c .before .named .ensures) (omega arith) _ refl (omega arith) _ (c .known-equal .ensures)
+returns-4 c =
+    λ types. fits-same _ _ _ _ (now (c .before .before .before .before .before .before .before .before .before .args .names)) _
+    (c .before .before .before .before .before .before .before .kind .ensures .0) _ _ (c .before .before .first-dependency .ensures .0)
+    (c .before .named .ensures) (omega arith) _ refl (omega arith) _ (c .known-equal .ensures)
 
 is-span-requires : tie.Need-is-span-requires
 is-span-requires c κs = search needs

@@ -3,9 +3,7 @@ use mathlib.Core.Path.{sym, ap, _∙_}
 use native.Mathlib.Omega.{arith}
 use borrow.Author.Needs.{needs}
 use Rattle.verify.specs.declared.Progress.{Progress}
-use Rattle.table.proofs.Laws.{tables-size, tables-words}
-use Rattle.verify.proofs.Steps.{laid-on, laid-end, laid-start, names-all, name-at, size-past, size-at, fresh-is, divides-one, divides-two, divides-four, divides-eight, divides-other, moved-other, moved-not, moved-on, look-open, look-seen, look-born, touch-free, touch-own, plain-constant, plain-copy, plain-move, plain-load, plain-store, store-closes, store-holds, touch-offset, touch-other, touch-load, touch-store, access-nothing, access-on, step-copy, step-constant, step-move, step-arithmetic, part-is, part-length, row-words}
-use borrow.Author.Needs.{needs}
+use Rattle.verify.proofs.Steps.{access-nothing, access-on}
 use Rattle.verify.proofs.access.Statement.{statement}
 use Rattle.verify.proofs.access.Tie as tie
 
@@ -34,16 +32,31 @@ refused-requires : tie.Need-refused-requires
 refused-requires c κs = search needs
 
 returns : tie.Need-returns
-returns c = (λ place. access-nothing _ _ _ _ _ _ _ _ (c .before .before .before .before .before .before .before .before .before .before .a .ensures .0) (c .before .before .before .before .before .before .before .before .before .b .ensures .0) (c .before .before .before .before .before .before .before .before .c .ensures .0) (c .before .before .before .before .before .before .before .before .before .before .before .before .before .pre .0) (c .before .before .before .before .before .before .before .before .before .before .before .before .before .pre .1) (sym (c .before .enum-told .given .1) ∙ c .before .before .before .reference .ensures _) _ (ap (λ (p : Progress). p .number) (c .refused .ensures)) _, omega (arith, (ap (λ (p : Progress). p .number) (c .refused .ensures))))
+returns c = (
+  λ place. access-nothing _ _ _ _ _ _ _ _
+      (c .before .before .before .before .before .before .before .before .before .before .a .ensures .0)
+      (c .before .before .before .before .before .before .before .before .before .b .ensures .0)
+      (c .before .before .before .before .before .before .before .before .c .ensures .0)
+      (c .before .before .before .before .before .before .before .before .before .before .before .before .before .pre .0)
+      (c .before .before .before .before .before .before .before .before .before .before .before .before .before .pre .1) (sym
+      (c .before .enum-told .given .1) ∙ c .before .before .before .reference .ensures _) _ (ap (λ (p : Progress). p .number)
+      (c .refused .ensures)) _,
+  omega (arith, (ap (λ (p : Progress). p .number) (c .refused .ensures))),
+)
 
 opcode-requires : tie.Need-opcode-requires
 opcode-requires c κs = search needs
 
 touch-requires : tie.Need-touch-requires
-touch-requires c κs = (c .before .before .before .before .before .before .before .before .before .before .before .before .before .before .before .before .before .before .before .before .pre .2, omega arith, c .before .before .before .before .before .before .before .before .before .before .before .before .before .before .before .before .before .before .before .before .pre .5, c .before .before .before .before .before .before .before .before .before .before .before .before .before .before .before .before .before .before .before .before .pre .6, c .before .before .before .before .before .before .before .before .before .before .before .before .before .before .before .before .before .before .before .before .pre .7, c .before .before .before .before .before .before .before .before .before .before .before .before .before .before .before .before .before .before .before .before .pre .8)
+touch-requires c κs =
+    (c .before .before .before .before .before .before .before .before .before .before .before .before .before .before .before .before .before .before .before .before .pre .2, omega arith, c .before .before .before .before .before .before .before .before .before .before .before .before .before .before .before .before .before .before .before .before .pre .5, c .before .before .before .before .before .before .before .before .before .before .before .before .before .before .before .before .before .before .before .before .pre .6, c .before .before .before .before .before .before .before .before .before .before .before .before .before .before .before .before .before .before .before .before .pre .7, c .before .before .before .before .before .before .before .before .before .before .before .before .before .before .before .before .before .before .before .before .pre .8)
 
 returns-2 : tie.Need-returns-2
-returns-2 c = (λ place. c .touch .ensures .0 place ∙ access-on _ _ _ _ _ _ _ _ (c .before .before .before .before .before .before .before .before .before .before .before .before .before .before .before .before .before .before .a .ensures .0) (c .before .before .before .before .before .before .before .before .before .before .before .before .before .before .before .before .before .b .ensures .0) (c .before .before .before .before .before .before .before .before .before .before .before .before .before .before .before .before .c .ensures .0) (c .before .before .before .before .before .before .before .before .before .before .before .before .before .before .before .before .before .before .before .before .before .pre .0) (c .before .before .before .before .before .before .before .before .before .before .before .before .before .before .before .before .before .before .before .before .before .pre .1) _ (sym (c .before .before .before .before .before .before .before .before .before .t .given .1) ∙ c .before .before .before .before .before .before .before .before .before .before .before .reference .ensures _) _ (c .before .before .before .before .before .before .before .opcode .ensures .0), c .touch .ensures .1)
+returns-2 c = (
+  λ place. c .touch .ensures .0 place ∙ access-on _ _ _ _ _ _ _ _
+      (c .before .before .before .before .before .before .before .before .before .before .before .before .before .before .before .before .before .before .a .ensures .0) (c .before .before .before .before .before .before .before .before .before .before .before .before .before .before .before .before .before .b .ensures .0) (c .before .before .before .before .before .before .before .before .before .before .before .before .before .before .before .before .c .ensures .0) (c .before .before .before .before .before .before .before .before .before .before .before .before .before .before .before .before .before .before .before .before .before .pre .0) (c .before .before .before .before .before .before .before .before .before .before .before .before .before .before .before .before .before .before .before .before .before .pre .1) _ (sym (c .before .before .before .before .before .before .before .before .before .t .given .1) ∙ c .before .before .before .before .before .before .before .before .before .before .before .reference .ensures _) _ (c .before .before .before .before .before .before .before .opcode .ensures .0),
+  c .touch .ensures .1,
+)
 
 pub access-spec : {M : Type 1} → statement M
 access-spec =

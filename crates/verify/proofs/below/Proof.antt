@@ -2,10 +2,7 @@
 use native.Mathlib.Omega.{arith}
 use borrow.Author.Needs.{needs}
 use Rattle.model.proofs.Logic.{told-no, told-yes}
-use Rattle.table.proofs.Laws.{tables-size, tables-words}
-use Rattle.verify.proofs.Steps.{laid-on, laid-end, laid-start, names-all, name-at, size-past, size-at, fresh-is, divides-one, divides-two, divides-four, divides-eight, divides-other, moved-other, moved-not, moved-on, look-open, look-seen, look-born, touch-free, touch-own, plain-constant, plain-copy, plain-move, plain-load, plain-store, store-closes, store-holds, touch-offset, touch-other, touch-load, touch-store, access-nothing, access-on, step-copy, step-constant, step-move, step-arithmetic, part-is, part-length, row-words}
 use Rattle.verify.proofs.Ends.{below-other, below-not, below-is}
-use borrow.Author.Needs.{needs}
 use Rattle.verify.proofs.below.Statement.{statement}
 use Rattle.verify.proofs.below.Tie as tie
 
@@ -34,7 +31,11 @@ known-equal-requires : tie.Need-known-equal-requires
 known-equal-requires c κs = search needs
 
 returns-2 : tie.Need-returns-2
-returns-2 c = below-not _ _ _ _ _ (c .before .before .before .before .before .before .before .before .pre) _ (c .before .before .before .before .before .before .kind .ensures .0) _ _ _ (c .before .before .before .before .frame .ensures .0) (c .before .before .sibling .ensures) (omega arith) (c .before .before .before .second-dependency .ensures .0) (told-no (c .before .known-equal .ensures) (c .if2 .taken))
+returns-2 c =
+    below-not _ _ _ _ _ (c .before .before .before .before .before .before .before .before .pre) _
+    (c .before .before .before .before .before .before .kind .ensures .0) _ _ _ (c .before .before .before .before .frame .ensures .0)
+    (c .before .before .sibling .ensures) (omega arith) (c .before .before .before .second-dependency .ensures .0) (told-no
+    (c .before .known-equal .ensures) (c .if2 .taken))
 
 mul-result : tie.Need-mul-result
 mul-result c = search needs
@@ -43,7 +44,11 @@ add-result : tie.Need-add-result
 add-result c = search needs
 
 returns-3 : tie.Need-returns-3
-returns-3 c = below-is _ _ _ _ _ (c .before .before .before .before .before .before .before .before .pre) _ (c .before .before .before .before .before .before .kind .ensures .0) _ _ _ (c .before .before .before .before .frame .ensures .0) (c .before .before .sibling .ensures) (omega arith) (c .before .before .before .second-dependency .ensures .0) (told-yes (c .before .known-equal .ensures) (c .if2 .left))
+returns-3 c =
+    below-is _ _ _ _ _ (c .before .before .before .before .before .before .before .before .pre) _
+    (c .before .before .before .before .before .before .kind .ensures .0) _ _ _ (c .before .before .before .before .frame .ensures .0)
+    (c .before .before .sibling .ensures) (omega arith) (c .before .before .before .second-dependency .ensures .0) (told-yes
+    (c .before .known-equal .ensures) (c .if2 .left))
 
 pub below-spec : {M : Type 1} → statement M
 below-spec =

@@ -5,8 +5,7 @@ use native.Mathlib.Omega.{arith}
 use lib.ListN.{length}
 use denote.Ref.{now}
 use Rattle.model.specs.Reading.{laidAt}
-use Rattle.table.proofs.Laws.{tables-size, tables-words}
-use Rattle.verify.proofs.Steps.{laid-on, laid-end, laid-start, names-all, name-at, size-past, size-at, fresh-is, divides-one, divides-two, divides-four, divides-eight, divides-other, moved-other, moved-not, moved-on, look-open, look-seen, look-born, touch-free, touch-own, plain-constant, plain-copy, plain-move, plain-load, plain-store, store-closes, store-holds, touch-offset, touch-other, touch-load, touch-store, access-nothing, access-on, step-copy, step-constant, step-move, step-arithmetic, part-is, part-length, row-words}
+use Rattle.verify.proofs.Steps.{part-is, part-length, row-words}
 use Rattle.model.specs.Question.{Outcome, verdictOf}
 use Rattle.model.specs.Table.{tablesOf, routineOf}
 use Rattle.model.specs.Check.{readOn, blockAsk}
@@ -16,29 +15,36 @@ use Rattle.verify.proofs.block.Statement.{statement}
 use Rattle.verify.proofs.block.Tie as tie
 
 abbrev Inv-loop : tie.InvT-loop
-Inv-loop types tags blocks code b first registers₀ words₀ frames₀ constants₀ views₀ fields₀ s₀ n end part count j₀ registers words frames constants views fields s j = (blockAsk (tablesOf types tags) (routineOf blocks code) b ≡ readOn (tablesOf types tags) (routineOf blocks code) b (n - j) j (reading registers words frames constants views fields (s .since) (s .base)))
+Inv-loop types tags blocks code b first registers₀ words₀ frames₀ constants₀ views₀ fields₀ s₀ n end part count j₀ registers words frames constants views fields s j =
+    (blockAsk (tablesOf types tags) (routineOf blocks code) b ≡ readOn (tablesOf types tags) (routineOf blocks code) b (n - j) j
+    (reading registers words frames constants views fields (s .since) (s .base)))
     × (s .number ≡ 0) × (length fields ≡ 8) × (j + 1 ≤ n)
 
 abbrev μ-loop : tie.MeasureT-loop
-μ-loop types tags blocks code b first registers₀ words₀ frames₀ constants₀ views₀ fields₀ s₀ n end part count j₀ registers words frames constants views fields s j = n - j
+μ-loop types tags blocks code b first registers₀ words₀ frames₀ constants₀ views₀ fields₀ s₀ n end part count j₀ registers words frames constants views fields s j =
+    n - j
 
 row-requires : tie.Need-row-requires Inv-loop μ-loop
 row-requires c κs = c .before .before .before .before .pre .0
 
 sub-lay : tie.Need-sub-lay Inv-loop μ-loop
-sub-lay c = let z = row-words _ _ _ (c .before .before .before .before .before .before .pre .0) (c .before .row .ensures) in
+sub-lay c =
+    let z = row-words _ _ _ (c .before .before .before .before .before .before .pre .0) (c .before .row .ensures) in
     omega arith
 
 part-lay-start : tie.Need-part-lay-start Inv-loop μ-loop
-part-lay-start c = let z = row-words _ _ _ (c .before .before .before .before .before .before .pre .0) (c .before .row .ensures) in
+part-lay-start c =
+    let z = row-words _ _ _ (c .before .before .before .before .before .before .pre .0) (c .before .row .ensures) in
     omega arith
 
 part-lay-end : tie.Need-part-lay-end Inv-loop μ-loop
-part-lay-end c = let z = row-words _ _ _ (c .before .before .before .before .before .before .pre .0) (c .before .row .ensures) in
+part-lay-end c =
+    let z = row-words _ _ _ (c .before .before .before .before .before .before .pre .0) (c .before .row .ensures) in
     omega arith
 
 lay-requires : tie.Need-lay-requires Inv-loop μ-loop
-lay-requires c κs = let z = part-length _ _ _ (c .before .before .before .before .before .before .before .pre .0) (c .before .before .row .ensures) in
+lay-requires c κs =
+    let z = part-length _ _ _ (c .before .before .before .before .before .before .before .pre .0) (c .before .before .row .ensures) in
     omega arith
 
 head-requires : tie.Need-head-requires Inv-loop μ-loop
@@ -66,17 +72,25 @@ cast-count : tie.Need-cast-count Inv-loop μ-loop
 cast-count c = omega arith
 
 loop-holds : tie.Need-loop-holds Inv-loop μ-loop
-loop-holds c = (block-begins _ _ _ _ _ _ (c .before .head .ensures) _ (c .before .before .lay .ensures ∙ ap (laidAt _ 0) (part-is _ _ _ (c .before .before .before .before .before .row .ensures))), refl, refl, omega arith)
+loop-holds c = (
+  block-begins _ _ _ _ _ _ (c .before .head .ensures) _ (c .before .before .lay .ensures ∙ ap (laidAt _ 0) (part-is _ _ _
+      (c .before .before .before .before .before .row .ensures))),
+  refl,
+  refl,
+  omega arith,
+)
 
 add-loop : tie.Need-add-loop Inv-loop μ-loop
 add-loop c = omega arith
 
 mul-early : tie.Need-mul-early Inv-loop μ-loop
-mul-early c = let z = part-long (now (c .before .before .before .before .before .before .before .before .before .before .before .before .before .before .before .before .before .before .args .blocks)) (now (c .before .before .before .before .before .before .before .before .before .before .before .before .before .before .before .before .before .before .args .code)) (c .before .before .before .before .before .before .before .before .before .before .before .before .before .before .before .before .before .before .args .b) _ (c .before .before .before .before .before .before .before .before .before .head .ensures) (c .before .before .before .before .before .before .before .before .before .before .before .before .before .before .before .before .before .before .args .first) (c .before .before .before .before .before .before .before .before .before .before .before .before .before .before .before .before .before .before .pre .2) (omega arith) in
+mul-early c =
+    let z = part-long (now (c .before .before .before .before .before .before .before .before .before .before .before .before .before .before .before .before .before .before .args .blocks)) (now (c .before .before .before .before .before .before .before .before .before .before .before .before .before .before .before .before .before .before .args .code)) (c .before .before .before .before .before .before .before .before .before .before .before .before .before .before .before .before .before .before .args .b) _ (c .before .before .before .before .before .before .before .before .before .head .ensures) (c .before .before .before .before .before .before .before .before .before .before .before .before .before .before .before .before .before .before .args .first) (c .before .before .before .before .before .before .before .before .before .before .before .before .before .before .before .before .before .before .pre .2) (omega arith) in
     omega arith
 
 shared-slice-read-early : tie.Need-shared-slice-read-early Inv-loop μ-loop
-shared-slice-read-early c = let z = part-long (now (c .before .before .before .before .before .before .before .before .before .before .before .before .before .before .before .before .before .before .before .args .blocks)) (now (c .before .before .before .before .before .before .before .before .before .before .before .before .before .before .before .before .before .before .before .args .code)) (c .before .before .before .before .before .before .before .before .before .before .before .before .before .before .before .before .before .before .before .args .b) _ (c .before .before .before .before .before .before .before .before .before .before .head .ensures) (c .before .before .before .before .before .before .before .before .before .before .before .before .before .before .before .before .before .before .before .args .first) (c .before .before .before .before .before .before .before .before .before .before .before .before .before .before .before .before .before .before .before .pre .2) (omega arith) in
+shared-slice-read-early c =
+    let z = part-long (now (c .before .before .before .before .before .before .before .before .before .before .before .before .before .before .before .before .before .before .before .args .blocks)) (now (c .before .before .before .before .before .before .before .before .before .before .before .before .before .before .before .before .before .before .before .args .code)) (c .before .before .before .before .before .before .before .before .before .before .before .before .before .before .before .before .before .before .before .args .b) _ (c .before .before .before .before .before .before .before .before .before .before .head .ensures) (c .before .before .before .before .before .before .before .before .before .before .before .before .before .before .before .before .before .before .before .args .first) (c .before .before .before .before .before .before .before .before .before .before .before .before .before .before .before .before .before .before .before .pre .2) (omega arith) in
     omega arith
 
 cast-early : tie.Need-cast-early Inv-loop μ-loop
@@ -86,7 +100,14 @@ add-early : tie.Need-add-early Inv-loop μ-loop
 add-early c = omega arith
 
 early-requires : tie.Need-early-requires Inv-loop μ-loop
-early-requires c κs = (omega arith, omega arith, c .before .before .before .before .before .before .before .before .loop .inv .1, c .before .before .before .before .before .before .before .before .loop .inv .2, c .before .before .before .before .before .before .before .before .before .before .before .before .before .before .before .before .before .before .before .pre .7, c .before .before .before .before .before .before .before .before .before .before .before .before .before .before .before .before .before .before .before .pre .8)
+early-requires c κs = (
+  omega arith,
+  omega arith,
+  c .before .before .before .before .before .before .before .before .loop .inv .1,
+  c .before .before .before .before .before .before .before .before .loop .inv .2,
+  c .before .before .before .before .before .before .before .before .before .before .before .before .before .before .before .before .before .before .before .pre .7,
+  c .before .before .before .before .before .before .before .before .before .before .before .before .before .before .before .before .before .before .before .pre .8,
+)
 
 add-refusal : tie.Need-add-refusal Inv-loop μ-loop
 add-refusal c = omega arith
@@ -95,7 +116,8 @@ refusal-requires : tie.Need-refusal-requires Inv-loop μ-loop
 refusal-requires c κs = omega arith
 
 returns : tie.Need-returns Inv-loop μ-loop
-returns c = at-start (now (c .before .before .before .before .before .before .before .before .before .before .before .before .before .before .before .before .before .before .before .before .before .before .args .blocks)) (now (c .before .before .before .before .before .before .before .before .before .before .before .before .before .before .before .before .before .before .before .before .before .before .args .code)) (c .before .before .before .before .before .before .before .before .before .before .before .before .before .before .before .before .before .before .before .before .before .before .args .b) _ (c .before .before .before .before .before .before .before .before .before .before .before .before .before .head .ensures) (c .before .before .before .before .before .before .before .before .before .before .before .before .before .before .before .before .before .before .before .before .before .before .args .first) (c .before .before .before .before .before .before .before .before .before .before .before .before .before .before .before .before .before .before .before .before .before .before .pre .2) _ (c .before .before .before .before .before .before .before .before .before .before .before .loop .j) _ (c .refusal .ensures) _ (read-stops _ _ _ _ (c .before .before .before .before .before .before .before .before .before .before .before .loop .j) _ _ (long-is (now (c .before .before .before .before .before .before .before .before .before .before .before .before .before .before .before .before .before .before .before .before .before .before .args .blocks)) (now (c .before .before .before .before .before .before .before .before .before .before .before .before .before .before .before .before .before .before .before .before .before .before .args .code)) (c .before .before .before .before .before .before .before .before .before .before .before .before .before .before .before .before .before .before .before .before .before .before .args .b) _ (c .before .before .before .before .before .before .before .before .before .before .before .before .before .head .ensures)) (part-of (now (c .before .before .before .before .before .before .before .before .before .before .before .before .before .before .before .before .before .before .before .before .before .before .args .blocks)) (now (c .before .before .before .before .before .before .before .before .before .before .before .before .before .before .before .before .before .before .before .before .before .before .args .code)) (c .before .before .before .before .before .before .before .before .before .before .before .before .before .before .before .before .before .before .before .before .before .before .args .b) _ (c .before .before .before .before .before .before .before .before .before .before .before .before .before .head .ensures) (c .before .before .before .before .before .before .before .before .before .before .before .before .before .before .before .before .before .before .before .before .before .before .args .first) (c .before .before .before .before .before .before .before .before .before .before .before .before .before .before .before .before .before .before .before .before .before .before .pre .2) (c .before .before .before .before .before .before .before .before .before .before .before .loop .j)) _ (omega arith) _ (c .before .before .early .ensures .0) (c .before .if1 .taken) (c .before .before .early .ensures .1)) ∙ ap (λ (o : Outcome (Unit {0})). verdictOf o) (sym (c .before .before .before .before .before .before .before .before .before .before .before .loop .inv .0))
+returns c =
+    at-start (now (c .before .before .before .before .before .before .before .before .before .before .before .before .before .before .before .before .before .before .before .before .before .before .args .blocks)) (now (c .before .before .before .before .before .before .before .before .before .before .before .before .before .before .before .before .before .before .before .before .before .before .args .code)) (c .before .before .before .before .before .before .before .before .before .before .before .before .before .before .before .before .before .before .before .before .before .before .args .b) _ (c .before .before .before .before .before .before .before .before .before .before .before .before .before .head .ensures) (c .before .before .before .before .before .before .before .before .before .before .before .before .before .before .before .before .before .before .before .before .before .before .args .first) (c .before .before .before .before .before .before .before .before .before .before .before .before .before .before .before .before .before .before .before .before .before .before .pre .2) _ (c .before .before .before .before .before .before .before .before .before .before .before .loop .j) _ (c .refusal .ensures) _ (read-stops _ _ _ _ (c .before .before .before .before .before .before .before .before .before .before .before .loop .j) _ _ (long-is (now (c .before .before .before .before .before .before .before .before .before .before .before .before .before .before .before .before .before .before .before .before .before .before .args .blocks)) (now (c .before .before .before .before .before .before .before .before .before .before .before .before .before .before .before .before .before .before .before .before .before .before .args .code)) (c .before .before .before .before .before .before .before .before .before .before .before .before .before .before .before .before .before .before .before .before .before .before .args .b) _ (c .before .before .before .before .before .before .before .before .before .before .before .before .before .head .ensures)) (part-of (now (c .before .before .before .before .before .before .before .before .before .before .before .before .before .before .before .before .before .before .before .before .before .before .args .blocks)) (now (c .before .before .before .before .before .before .before .before .before .before .before .before .before .before .before .before .before .before .before .before .before .before .args .code)) (c .before .before .before .before .before .before .before .before .before .before .before .before .before .before .before .before .before .before .before .before .before .before .args .b) _ (c .before .before .before .before .before .before .before .before .before .before .before .before .before .head .ensures) (c .before .before .before .before .before .before .before .before .before .before .before .before .before .before .before .before .before .before .before .before .before .before .args .first) (c .before .before .before .before .before .before .before .before .before .before .before .before .before .before .before .before .before .before .before .before .before .before .pre .2) (c .before .before .before .before .before .before .before .before .before .before .before .loop .j)) _ (omega arith) _ (c .before .before .early .ensures .0) (c .before .if1 .taken) (c .before .before .early .ensures .1)) ∙ ap (λ (o : Outcome (Unit {0})). verdictOf o) (sym (c .before .before .before .before .before .before .before .before .before .before .before .loop .inv .0))
 
 add-j : tie.Need-add-j Inv-loop μ-loop
 add-j c = omega arith
@@ -105,18 +127,23 @@ loop-less c = omega arith
 
 loop-again : tie.Need-loop-again Inv-loop μ-loop
 loop-again c = (
-  c .before .before .before .before .before .before .before .before .before .before .loop .inv .0 ∙ read-on _ _ _ _ (c .before .before .before .before .before .before .before .before .before .before .loop .j) _ _ (long-is (now (c .before .before .before .before .before .before .before .before .before .before .before .before .before .before .before .before .before .before .before .before .before .args .blocks)) (now (c .before .before .before .before .before .before .before .before .before .before .before .before .before .before .before .before .before .before .before .before .before .args .code)) (c .before .before .before .before .before .before .before .before .before .before .before .before .before .before .before .before .before .before .before .before .before .args .b) _ (c .before .before .before .before .before .before .before .before .before .before .before .before .head .ensures)) (part-of (now (c .before .before .before .before .before .before .before .before .before .before .before .before .before .before .before .before .before .before .before .before .before .args .blocks)) (now (c .before .before .before .before .before .before .before .before .before .before .before .before .before .before .before .before .before .before .before .before .before .args .code)) (c .before .before .before .before .before .before .before .before .before .before .before .before .before .before .before .before .before .before .before .before .before .args .b) _ (c .before .before .before .before .before .before .before .before .before .before .before .before .head .ensures) (c .before .before .before .before .before .before .before .before .before .before .before .before .before .before .before .before .before .before .before .before .before .args .first) (c .before .before .before .before .before .before .before .before .before .before .before .before .before .before .before .before .before .before .before .before .before .pre .2) (c .before .before .before .before .before .before .before .before .before .before .loop .j)) _ (omega arith) _ (c .before .early .ensures .0) (c .if1 .left),
+  c .before .before .before .before .before .before .before .before .before .before .loop .inv .0 ∙ read-on _ _ _ _
+      (c .before .before .before .before .before .before .before .before .before .before .loop .j) _ _ (long-is (now
+      (c .before .before .before .before .before .before .before .before .before .before .before .before .before .before .before .before .before .before .before .before .before .args .blocks)) (now (c .before .before .before .before .before .before .before .before .before .before .before .before .before .before .before .before .before .before .before .before .before .args .code)) (c .before .before .before .before .before .before .before .before .before .before .before .before .before .before .before .before .before .before .before .before .before .args .b) _ (c .before .before .before .before .before .before .before .before .before .before .before .before .head .ensures)) (part-of (now (c .before .before .before .before .before .before .before .before .before .before .before .before .before .before .before .before .before .before .before .before .before .args .blocks)) (now (c .before .before .before .before .before .before .before .before .before .before .before .before .before .before .before .before .before .before .before .before .before .args .code)) (c .before .before .before .before .before .before .before .before .before .before .before .before .before .before .before .before .before .before .before .before .before .args .b) _ (c .before .before .before .before .before .before .before .before .before .before .before .before .head .ensures) (c .before .before .before .before .before .before .before .before .before .before .before .before .before .before .before .before .before .before .before .before .before .args .first) (c .before .before .before .before .before .before .before .before .before .before .before .before .before .before .before .before .before .before .before .before .before .pre .2) (c .before .before .before .before .before .before .before .before .before .before .loop .j)) _ (omega arith) _ (c .before .early .ensures .0) (c .if1 .left),
   c .if1 .left,
-  eight-early _ _ _ _ _ _ (c .before .early .ensures .0) (c .if1 .left) (c .before .before .before .before .before .before .before .before .before .before .loop .inv .2),
+  eight-early _ _ _ _ _ _ (c .before .early .ensures .0) (c .if1 .left)
+      (c .before .before .before .before .before .before .before .before .before .before .loop .inv .2),
   omega arith,
 )
 
 mul-last : tie.Need-mul-last Inv-loop μ-loop
-mul-last c = let z = part-long (now (c .before .before .before .before .before .before .before .before .before .before .before .before .before .before .before .before .args .blocks)) (now (c .before .before .before .before .before .before .before .before .before .before .before .before .before .before .before .before .args .code)) (c .before .before .before .before .before .before .before .before .before .before .before .before .before .before .before .before .args .b) _ (c .before .before .before .before .before .before .before .head .ensures) (c .before .before .before .before .before .before .before .before .before .before .before .before .before .before .before .before .args .first) (c .before .before .before .before .before .before .before .before .before .before .before .before .before .before .before .before .pre .2) (omega arith) in
+mul-last c =
+    let z = part-long (now (c .before .before .before .before .before .before .before .before .before .before .before .before .before .before .before .before .args .blocks)) (now (c .before .before .before .before .before .before .before .before .before .before .before .before .before .before .before .before .args .code)) (c .before .before .before .before .before .before .before .before .before .before .before .before .before .before .before .before .args .b) _ (c .before .before .before .before .before .before .before .head .ensures) (c .before .before .before .before .before .before .before .before .before .before .before .before .before .before .before .before .args .first) (c .before .before .before .before .before .before .before .before .before .before .before .before .before .before .before .before .pre .2) (omega arith) in
     omega arith
 
 shared-slice-read-last : tie.Need-shared-slice-read-last Inv-loop μ-loop
-shared-slice-read-last c = let z = part-long (now (c .before .before .before .before .before .before .before .before .before .before .before .before .before .before .before .before .before .args .blocks)) (now (c .before .before .before .before .before .before .before .before .before .before .before .before .before .before .before .before .before .args .code)) (c .before .before .before .before .before .before .before .before .before .before .before .before .before .before .before .before .before .args .b) _ (c .before .before .before .before .before .before .before .before .head .ensures) (c .before .before .before .before .before .before .before .before .before .before .before .before .before .before .before .before .before .args .first) (c .before .before .before .before .before .before .before .before .before .before .before .before .before .before .before .before .before .pre .2) (omega arith) in
+shared-slice-read-last c =
+    let z = part-long (now (c .before .before .before .before .before .before .before .before .before .before .before .before .before .before .before .before .before .args .blocks)) (now (c .before .before .before .before .before .before .before .before .before .before .before .before .before .before .before .before .before .args .code)) (c .before .before .before .before .before .before .before .before .before .before .before .before .before .before .before .before .before .args .b) _ (c .before .before .before .before .before .before .before .before .head .ensures) (c .before .before .before .before .before .before .before .before .before .before .before .before .before .before .before .before .before .args .first) (c .before .before .before .before .before .before .before .before .before .before .before .before .before .before .before .before .before .pre .2) (omega arith) in
     omega arith
 
 last-requires : tie.Need-last-requires Inv-loop μ-loop
@@ -129,10 +156,13 @@ refusal-requires-2 : tie.Need-refusal-requires-2 Inv-loop μ-loop
 refusal-requires-2 c κs = omega arith
 
 returns-2 : tie.Need-returns-2 Inv-loop μ-loop
-returns-2 c = at-start (now (c .before .before .before .before .before .before .before .before .before .before .before .before .before .before .before .before .before .before .before .before .args .blocks)) (now (c .before .before .before .before .before .before .before .before .before .before .before .before .before .before .before .before .before .before .before .before .args .code)) (c .before .before .before .before .before .before .before .before .before .before .before .before .before .before .before .before .before .before .before .before .args .b) _ (c .before .before .before .before .before .before .before .before .before .before .before .head .ensures) (c .before .before .before .before .before .before .before .before .before .before .before .before .before .before .before .before .before .before .before .before .args .first) (c .before .before .before .before .before .before .before .before .before .before .before .before .before .before .before .before .before .before .before .before .pre .2) _ (c .before .before .before .before .before .before .before .before .before .loop .j) _ (c .refusal2 .ensures) _ (read-refuses _ _ _ _ (c .before .before .before .before .before .before .before .before .before .loop .j) _ _ (long-is (now (c .before .before .before .before .before .before .before .before .before .before .before .before .before .before .before .before .before .before .before .before .args .blocks)) (now (c .before .before .before .before .before .before .before .before .before .before .before .before .before .before .before .before .before .before .before .before .args .code)) (c .before .before .before .before .before .before .before .before .before .before .before .before .before .before .before .before .before .before .before .before .args .b) _ (c .before .before .before .before .before .before .before .before .before .before .before .head .ensures)) (part-of (now (c .before .before .before .before .before .before .before .before .before .before .before .before .before .before .before .before .before .before .before .before .args .blocks)) (now (c .before .before .before .before .before .before .before .before .before .before .before .before .before .before .before .before .before .before .before .before .args .code)) (c .before .before .before .before .before .before .before .before .before .before .before .before .before .before .before .before .before .before .before .before .args .b) _ (c .before .before .before .before .before .before .before .before .before .before .before .head .ensures) (c .before .before .before .before .before .before .before .before .before .before .before .before .before .before .before .before .before .before .before .before .args .first) (c .before .before .before .before .before .before .before .before .before .before .before .before .before .before .before .before .before .before .before .before .pre .2) (c .before .before .before .before .before .before .before .before .before .loop .j)) _ (omega arith) (λ place. c .before .before .last .ensures .0 place _ _ _ _ _) (c .before .if2 .taken) (c .before .before .last .ensures .1)) ∙ ap (λ (o : Outcome (Unit {0})). verdictOf o) (sym (c .before .before .before .before .before .before .before .before .before .loop .inv .0))
+returns-2 c =
+    at-start (now (c .before .before .before .before .before .before .before .before .before .before .before .before .before .before .before .before .before .before .before .before .args .blocks)) (now (c .before .before .before .before .before .before .before .before .before .before .before .before .before .before .before .before .before .before .before .before .args .code)) (c .before .before .before .before .before .before .before .before .before .before .before .before .before .before .before .before .before .before .before .before .args .b) _ (c .before .before .before .before .before .before .before .before .before .before .before .head .ensures) (c .before .before .before .before .before .before .before .before .before .before .before .before .before .before .before .before .before .before .before .before .args .first) (c .before .before .before .before .before .before .before .before .before .before .before .before .before .before .before .before .before .before .before .before .pre .2) _ (c .before .before .before .before .before .before .before .before .before .loop .j) _ (c .refusal2 .ensures) _ (read-refuses _ _ _ _ (c .before .before .before .before .before .before .before .before .before .loop .j) _ _ (long-is (now (c .before .before .before .before .before .before .before .before .before .before .before .before .before .before .before .before .before .before .before .before .args .blocks)) (now (c .before .before .before .before .before .before .before .before .before .before .before .before .before .before .before .before .before .before .before .before .args .code)) (c .before .before .before .before .before .before .before .before .before .before .before .before .before .before .before .before .before .before .before .before .args .b) _ (c .before .before .before .before .before .before .before .before .before .before .before .head .ensures)) (part-of (now (c .before .before .before .before .before .before .before .before .before .before .before .before .before .before .before .before .before .before .before .before .args .blocks)) (now (c .before .before .before .before .before .before .before .before .before .before .before .before .before .before .before .before .before .before .before .before .args .code)) (c .before .before .before .before .before .before .before .before .before .before .before .before .before .before .before .before .before .before .before .before .args .b) _ (c .before .before .before .before .before .before .before .before .before .before .before .head .ensures) (c .before .before .before .before .before .before .before .before .before .before .before .before .before .before .before .before .before .before .before .before .args .first) (c .before .before .before .before .before .before .before .before .before .before .before .before .before .before .before .before .before .before .before .before .pre .2) (c .before .before .before .before .before .before .before .before .before .loop .j)) _ (omega arith) (λ place. c .before .before .last .ensures .0 place _ _ _ _ _) (c .before .if2 .taken) (c .before .before .last .ensures .1)) ∙ ap (λ (o : Outcome (Unit {0})). verdictOf o) (sym (c .before .before .before .before .before .before .before .before .before .loop .inv .0))
 
 returns-3 : tie.Need-returns-3 Inv-loop μ-loop
-returns-3 c = read-ends _ _ _ _ (c .before .before .before .before .before .before .before .before .loop .j) _ _ (long-is (now (c .before .before .before .before .before .before .before .before .before .before .before .before .before .before .before .before .before .before .before .args .blocks)) (now (c .before .before .before .before .before .before .before .before .before .before .before .before .before .before .before .before .before .before .before .args .code)) (c .before .before .before .before .before .before .before .before .before .before .before .before .before .before .before .before .before .before .before .args .b) _ (c .before .before .before .before .before .before .before .before .before .before .head .ensures)) (part-of (now (c .before .before .before .before .before .before .before .before .before .before .before .before .before .before .before .before .before .before .before .args .blocks)) (now (c .before .before .before .before .before .before .before .before .before .before .before .before .before .before .before .before .before .before .before .args .code)) (c .before .before .before .before .before .before .before .before .before .before .before .before .before .before .before .before .before .before .before .args .b) _ (c .before .before .before .before .before .before .before .before .before .before .head .ensures) (c .before .before .before .before .before .before .before .before .before .before .before .before .before .before .before .before .before .before .before .args .first) (c .before .before .before .before .before .before .before .before .before .before .before .before .before .before .before .before .before .before .before .pre .2) (c .before .before .before .before .before .before .before .before .loop .j)) _ (omega arith) (λ place. c .before .last .ensures .0 place _ _ _ _ _) (c .if2 .left) ∙ ap (λ (o : Outcome (Unit {0})). verdictOf o) (sym (c .before .before .before .before .before .before .before .before .loop .inv .0))
+returns-3 c =
+    read-ends _ _ _ _ (c .before .before .before .before .before .before .before .before .loop .j) _ _ (long-is (now
+    (c .before .before .before .before .before .before .before .before .before .before .before .before .before .before .before .before .before .before .before .args .blocks)) (now (c .before .before .before .before .before .before .before .before .before .before .before .before .before .before .before .before .before .before .before .args .code)) (c .before .before .before .before .before .before .before .before .before .before .before .before .before .before .before .before .before .before .before .args .b) _ (c .before .before .before .before .before .before .before .before .before .before .head .ensures)) (part-of (now (c .before .before .before .before .before .before .before .before .before .before .before .before .before .before .before .before .before .before .before .args .blocks)) (now (c .before .before .before .before .before .before .before .before .before .before .before .before .before .before .before .before .before .before .before .args .code)) (c .before .before .before .before .before .before .before .before .before .before .before .before .before .before .before .before .before .before .before .args .b) _ (c .before .before .before .before .before .before .before .before .before .before .head .ensures) (c .before .before .before .before .before .before .before .before .before .before .before .before .before .before .before .before .before .before .before .args .first) (c .before .before .before .before .before .before .before .before .before .before .before .before .before .before .before .before .before .before .before .pre .2) (c .before .before .before .before .before .before .before .before .loop .j)) _ (omega arith) (λ place. c .before .last .ensures .0 place _ _ _ _ _) (c .if2 .left) ∙ ap (λ (o : Outcome (Unit {0})). verdictOf o) (sym (c .before .before .before .before .before .before .before .before .loop .inv .0))
 
 pub block-spec : {M : Type 1} → statement M
 block-spec =

@@ -2,12 +2,9 @@
 use mathlib.Core.Path.{refl, _∙_}
 use native.Mathlib.Omega.{arith}
 use borrow.Author.Needs.{needs}
-use Rattle.table.proofs.Laws.{tables-size, tables-words}
-use Rattle.verify.proofs.Steps.{laid-on, laid-end, laid-start, names-all, name-at, size-past, size-at, fresh-is, divides-one, divides-two, divides-four, divides-eight, divides-other, moved-other, moved-not, moved-on, look-open, look-seen, look-born, touch-free, touch-own, plain-constant, plain-copy, plain-move, plain-load, plain-store, store-closes, store-holds, touch-offset, touch-other, touch-load, touch-store, access-nothing, access-on, step-copy, step-constant, step-move, step-arithmetic, part-is, part-length, row-words}
 use Rattle.model.specs.Check.{judge}
 use Rattle.table.proofs.Laws.{type-lengths-passed, code-lengths-passed, size-bounds, block-bounds}
 use Rattle.verify.proofs.Blocks.{check-1, check-2, check-3, check-4, check-5, check-6, sizes-small}
-use borrow.Author.Needs.{needs}
 use Rattle.verify.proofs.check.Statement.{statement}
 use Rattle.verify.proofs.check.Tie as tie
 
@@ -21,46 +18,63 @@ code-lengths-requires : tie.Need-code-lengths-requires
 code-lengths-requires c κs = search needs
 
 returns-2 : tie.Need-returns-2
-returns-2 c = check-2 _ _ _ _ _ (c .before .before .before .before .before .type-lengths .ensures) (c .before .before .before .if1 .left) _ (c .before .before .code-lengths .ensures) (c .if2 .taken)
+returns-2 c =
+    check-2 _ _ _ _ _ (c .before .before .before .before .before .type-lengths .ensures) (c .before .before .before .if1 .left) _
+    (c .before .before .code-lengths .ensures) (c .if2 .taken)
 
 types-requires : tie.Need-types-requires
-types-requires c κs = let p = type-lengths-passed _ _ _ (c .before .before .before .before .before .type-lengths .ensures) (c .before .before .before .if1 .left) in
+types-requires c κs =
+    let p = type-lengths-passed _ _ _ (c .before .before .before .before .before .type-lengths .ensures) (c .before .before .before .if1 .left) in
     (p .2, p .3)
 
 returns-3 : tie.Need-returns-3
-returns-3 c = check-3 _ _ _ _ _ (c .before .before .before .before .before .before .before .before .type-lengths .ensures) (c .before .before .before .before .before .before .if1 .left) _ (c .before .before .before .before .before .code-lengths .ensures) (c .before .before .before .if2 .left) _ (c .before .before .types .ensures) (c .if3 .taken)
+returns-3 c =
+    check-3 _ _ _ _ _ (c .before .before .before .before .before .before .before .before .type-lengths .ensures)
+    (c .before .before .before .before .before .before .if1 .left) _ (c .before .before .before .before .before .code-lengths .ensures)
+    (c .before .before .before .if2 .left) _ (c .before .before .types .ensures) (c .if3 .taken)
 
 lengths-requires : tie.Need-lengths-requires
-lengths-requires c κs = let q = code-lengths-passed _ _ _ (c .before .before .before .before .before .before .code-lengths .ensures) (c .before .before .before .before .if2 .left) in
+lengths-requires c κs =
+    let q = code-lengths-passed _ _ _ (c .before .before .before .before .before .before .code-lengths .ensures) (c .before .before .before .before .if2 .left) in
     (q .2, q .4)
 
 returns-4 : tie.Need-returns-4
-returns-4 c = check-4 _ _ _ _ _ (c .before .before .before .before .before .before .before .before .before .before .before .before .type-lengths .ensures) (c .before .before .before .before .before .before .before .before .before .before .if1 .left) _ (c .before .before .before .before .before .before .before .before .before .code-lengths .ensures) (c .before .before .before .before .before .before .before .if2 .left) _ (c .before .before .before .before .before .before .types .ensures) (c .before .before .before .before .if3 .left) _ (c .before .before .lengths .ensures .0) (c .if4 .taken)
+returns-4 c =
+    check-4 _ _ _ _ _ (c .before .before .before .before .before .before .before .before .before .before .before .before .type-lengths .ensures) (c .before .before .before .before .before .before .before .before .before .before .if1 .left) _ (c .before .before .before .before .before .before .before .before .before .code-lengths .ensures) (c .before .before .before .before .before .before .before .if2 .left) _ (c .before .before .before .before .before .before .types .ensures) (c .before .before .before .before .if3 .left) _ (c .before .before .lengths .ensures .0) (c .if4 .taken)
 
 cast-annotations : tie.Need-cast-annotations
-cast-annotations c = let p = type-lengths-passed _ _ _ (c .before .before .before .before .before .before .before .before .before .before .before .before .type-lengths .ensures) (c .before .before .before .before .before .before .before .before .before .before .if1 .left) in
+cast-annotations c =
+    let p = type-lengths-passed _ _ _ (c .before .before .before .before .before .before .before .before .before .before .before .before .type-lengths .ensures) (c .before .before .before .before .before .before .before .before .before .before .if1 .left) in
     omega arith
 
 annotations-requires : tie.Need-annotations-requires
-annotations-requires c κs = let q = code-lengths-passed _ _ _ (c .before .before .before .before .before .before .before .before .before .code-lengths .ensures) (c .before .before .before .before .before .before .before .if2 .left) in
+annotations-requires c κs =
+    let q = code-lengths-passed _ _ _ (c .before .before .before .before .before .before .before .before .before .code-lengths .ensures) (c .before .before .before .before .before .before .before .if2 .left) in
     q .2
 
 returns-5 : tie.Need-returns-5
-returns-5 c = check-5 _ _ _ _ _ (c .before .before .before .before .before .before .before .before .before .before .before .before .before .before .before .type-lengths .ensures) (c .before .before .before .before .before .before .before .before .before .before .before .before .before .if1 .left) _ (c .before .before .before .before .before .before .before .before .before .before .before .before .code-lengths .ensures) (c .before .before .before .before .before .before .before .before .before .before .if2 .left) _ (c .before .before .before .before .before .before .before .before .before .types .ensures) (c .before .before .before .before .before .before .before .if3 .left) _ (c .before .before .before .before .before .lengths .ensures .0) (c .before .before .before .if4 .left) _ (c .before .before .annotations .ensures _ _ _ refl) (c .if5 .taken)
+returns-5 c =
+    check-5 _ _ _ _ _ (c .before .before .before .before .before .before .before .before .before .before .before .before .before .before .before .type-lengths .ensures) (c .before .before .before .before .before .before .before .before .before .before .before .before .before .if1 .left) _ (c .before .before .before .before .before .before .before .before .before .before .before .before .code-lengths .ensures) (c .before .before .before .before .before .before .before .before .before .before .if2 .left) _ (c .before .before .before .before .before .before .before .before .before .types .ensures) (c .before .before .before .before .before .before .before .if3 .left) _ (c .before .before .before .before .before .lengths .ensures .0) (c .before .before .before .if4 .left) _ (c .before .before .annotations .ensures _ _ _ refl) (c .if5 .taken)
 
 judge-requires : tie.Need-judge-requires
-judge-requires c κs = let p = type-lengths-passed _ _ _ (c .before .before .before .before .before .before .before .before .before .before .before .before .before .before .before .before .type-lengths .ensures) (c .before .before .before .before .before .before .before .before .before .before .before .before .before .before .if1 .left) in
+judge-requires c κs =
+    let p = type-lengths-passed _ _ _ (c .before .before .before .before .before .before .before .before .before .before .before .before .before .before .before .before .type-lengths .ensures) (c .before .before .before .before .before .before .before .before .before .before .before .before .before .before .if1 .left) in
     let q = code-lengths-passed _ _ _ (c .before .before .before .before .before .before .before .before .before .before .before .before .before .code-lengths .ensures) (c .before .before .before .before .before .before .before .before .before .before .before .if2 .left) in (
       q .2,
       q .4,
       p .0,
-      sizes-small _ (p .0) (size-bounds _ _ _ (c .before .before .before .before .before .before .before .before .before .before .types .ensures) (c .before .before .before .before .before .before .before .before .if3 .left)),
-      block-bounds _ _ _ (c .before .before .before .before .before .before .lengths .ensures .0) (c .before .before .before .before .if4 .left),
+      sizes-small _ (p .0) (size-bounds _ _ _
+          (c .before .before .before .before .before .before .before .before .before .before .types .ensures)
+          (c .before .before .before .before .before .before .before .before .if3 .left)),
+      block-bounds _ _ _ (c .before .before .before .before .before .before .lengths .ensures .0)
+          (c .before .before .before .before .if4 .left),
       c .before .before .before .before .before .before .lengths .ensures .1 refl (c .before .before .before .before .if4 .left),
     )
 
 returns-6 : tie.Need-returns-6
-returns-6 c = c .judge .ensures ∙ check-6 _ _ _ _ _ (c .before .before .before .before .before .before .before .before .before .before .before .before .before .before .before .before .before .type-lengths .ensures) (c .before .before .before .before .before .before .before .before .before .before .before .before .before .before .before .if1 .left) _ (c .before .before .before .before .before .before .before .before .before .before .before .before .before .before .code-lengths .ensures) (c .before .before .before .before .before .before .before .before .before .before .before .before .if2 .left) _ (c .before .before .before .before .before .before .before .before .before .before .before .types .ensures) (c .before .before .before .before .before .before .before .before .before .if3 .left) _ (c .before .before .before .before .before .before .before .lengths .ensures .0) (c .before .before .before .before .before .if4 .left) _ (c .before .before .before .before .annotations .ensures _ _ _ refl) (c .before .before .if5 .left)
+returns-6 c =
+    c .judge .ensures ∙ check-6 _ _ _ _ _
+    (c .before .before .before .before .before .before .before .before .before .before .before .before .before .before .before .before .before .type-lengths .ensures) (c .before .before .before .before .before .before .before .before .before .before .before .before .before .before .before .if1 .left) _ (c .before .before .before .before .before .before .before .before .before .before .before .before .before .before .code-lengths .ensures) (c .before .before .before .before .before .before .before .before .before .before .before .before .if2 .left) _ (c .before .before .before .before .before .before .before .before .before .before .before .types .ensures) (c .before .before .before .before .before .before .before .before .before .if3 .left) _ (c .before .before .before .before .before .before .before .lengths .ensures .0) (c .before .before .before .before .before .if4 .left) _ (c .before .before .before .before .annotations .ensures _ _ _ refl) (c .before .before .if5 .left)
 
 pub check-spec : {M : Type 1} → statement M
 check-spec =

@@ -1,7 +1,6 @@
 -- `verify::divides` meets its contract.
 use native.Mathlib.Omega.{arith}
-use Rattle.table.proofs.Laws.{tables-size, tables-words}
-use Rattle.verify.proofs.Steps.{laid-on, laid-end, laid-start, names-all, name-at, size-past, size-at, fresh-is, divides-one, divides-two, divides-four, divides-eight, divides-other, moved-other, moved-not, moved-on, look-open, look-seen, look-born, touch-free, touch-own, plain-constant, plain-copy, plain-move, plain-load, plain-store, store-closes, store-holds, touch-offset, touch-other, touch-load, touch-store, access-nothing, access-on, step-copy, step-constant, step-move, step-arithmetic, part-is, part-length, row-words}
+use Rattle.verify.proofs.Steps.{divides-one, divides-two, divides-four, divides-eight, divides-other}
 use Rattle.verify.proofs.divides.Statement.{statement}
 use Rattle.verify.proofs.divides.Tie as tie
 
@@ -18,7 +17,9 @@ returns-4 : tie.Need-returns-4
 returns-4 c = divides-eight (c .before .before .before .before .args .n) (c .before .before .before .before .args .c) (omega arith)
 
 returns-5 : tie.Need-returns-5
-returns-5 c = divides-other (c .before .before .before .before .args .n) (c .before .before .before .before .args .c) (λ h. omega arith) (λ h. omega arith) (λ h. omega arith) (λ h. omega arith)
+returns-5 c =
+    divides-other (c .before .before .before .before .args .n) (c .before .before .before .before .args .c) (λ h. omega arith)
+    (λ h. omega arith) (λ h. omega arith) (λ h. omega arith)
 
 pub divides-spec : {M : Type 1} → statement M
 divides-spec = tie.close (tie.spec returns returns-2 returns-3 returns-4 returns-5)

@@ -3,11 +3,8 @@ use mathlib.Core.Path.{ap, _∙_}
 use native.Mathlib.Omega.{arith}
 use borrow.Author.Needs.{needs}
 use Rattle.verify.specs.declared.Progress.{Progress}
-use Rattle.table.proofs.Laws.{tables-size, tables-words}
-use Rattle.verify.proofs.Steps.{laid-on, laid-end, laid-start, names-all, name-at, size-past, size-at, fresh-is, divides-one, divides-two, divides-four, divides-eight, divides-other, moved-other, moved-not, moved-on, look-open, look-seen, look-born, touch-free, touch-own, plain-constant, plain-copy, plain-move, plain-load, plain-store, store-closes, store-holds, touch-offset, touch-other, touch-load, touch-store, access-nothing, access-on, step-copy, step-constant, step-move, step-arithmetic, part-is, part-length, row-words}
 use Rattle.instruction.proofs.Forms.{registers}
 use Rattle.verify.proofs.Ends.{decode-plain, early-form, early-no, form-bound, early-on}
-use borrow.Author.Needs.{needs}
 use Rattle.verify.proofs.early.Statement.{statement}
 use Rattle.verify.proofs.early.Tie as tie
 
@@ -18,15 +15,35 @@ refused-requires : tie.Need-refused-requires
 refused-requires c κs = search needs
 
 returns : tie.Need-returns
-returns c = (λ place. early-no _ _ _ _ _ (c .before .if1 .taken) _ _ _ _ (c .before .before .form .ensures) _ (ap (λ (p : Progress). p .number) (c .refused .ensures)), omega (arith, form-bound _ _ _ _ _ (c .before .before .form .ensures), (ap (λ (p : Progress). p .number) (c .refused .ensures))))
+returns c = (
+  λ place. early-no _ _ _ _ _ (c .before .if1 .taken) _ _ _ _ (c .before .before .form .ensures) _ (ap (λ (p : Progress). p .number)
+      (c .refused .ensures)),
+  omega (
+    arith,
+    form-bound _ _ _ _ _ (c .before .before .form .ensures),
+    (ap (λ (p : Progress). p .number)
+        (c .refused .ensures)),
+  ),
+)
 
 step-requires : tie.Need-step-requires
-step-requires c κs = let f = early-form _ _ _ _ (c .before .before .before .before .before .before .before .form .ensures) (c .before .before .before .before .before .before .if1 .left) in
-    let r = registers _ (f .0) in
-    (f .1, omega arith, c .before .before .before .before .before .before .before .before .before .before .pre .0, r .0, r .1, c .before .before .before .before .before .before .before .before .before .before .pre .2, c .before .before .before .before .before .before .before .before .before .before .pre .3, c .before .before .before .before .before .before .before .before .before .before .pre .4, c .before .before .before .before .before .before .before .before .before .before .pre .5)
+step-requires c κs =
+    let f = early-form _ _ _ _ (c .before .before .before .before .before .before .before .form .ensures) (c .before .before .before .before .before .before .if1 .left) in
+    let r = registers _ (f .0) in (
+      f .1,
+      omega arith,
+      c .before .before .before .before .before .before .before .before .before .before .pre .0,
+      r .0,
+      r .1,
+      c .before .before .before .before .before .before .before .before .before .before .pre .2,
+      c .before .before .before .before .before .before .before .before .before .before .pre .3,
+      c .before .before .before .before .before .before .before .before .before .before .pre .4,
+      c .before .before .before .before .before .before .before .before .before .before .pre .5,
+    )
 
 returns-2 : tie.Need-returns-2
-returns-2 c = let f = early-form _ _ _ _ (c .before .before .before .before .before .before .before .before .form .ensures) (c .before .before .before .before .before .before .before .if1 .left) in
+returns-2 c =
+    let f = early-form _ _ _ _ (c .before .before .before .before .before .before .before .before .form .ensures) (c .before .before .before .before .before .before .before .if1 .left) in
     (λ place. c .step .ensures .0 place ∙ early-on _ _ _ _ _ (decode-plain _ (f .0) (f .1) (f .2)), omega (arith, c .step .ensures .1))
 
 pub early-spec : {M : Type 1} → statement M

@@ -2,10 +2,8 @@
 use mathlib.Core.Path.{_∙_}
 use native.Mathlib.Omega.{arith}
 use borrow.Author.Needs.{needs}
-use Rattle.table.proofs.Laws.{tables-size, tables-words}
-use Rattle.verify.proofs.Steps.{laid-on, laid-end, laid-start, names-all, name-at, size-past, size-at, fresh-is, divides-one, divides-two, divides-four, divides-eight, divides-other, moved-other, moved-not, moved-on, look-open, look-seen, look-born, touch-free, touch-own, plain-constant, plain-copy, plain-move, plain-load, plain-store, store-closes, store-holds, touch-offset, touch-other, touch-load, touch-store, access-nothing, access-on, step-copy, step-constant, step-move, step-arithmetic, part-is, part-length, row-words}
+use Rattle.verify.proofs.Steps.{part-is, part-length, row-words}
 use Rattle.verify.proofs.Ends.{row-same}
-use borrow.Author.Needs.{needs}
 use Rattle.verify.proofs.edge.Statement.{statement}
 use Rattle.verify.proofs.edge.Tie as tie
 
@@ -13,18 +11,21 @@ row-requires : tie.Need-row-requires
 row-requires c κs = search needs
 
 sub-row-fits : tie.Need-sub-row-fits
-sub-row-fits c = let z = row-words _ _ _ (c .before .before .before .pre) (c .row .ensures) in
+sub-row-fits c =
+    let z = row-words _ _ _ (c .before .before .before .pre) (c .row .ensures) in
     omega arith
 
 part-row-fits-start : tie.Need-part-row-fits-start
-part-row-fits-start c = let z = row-words _ _ _ (c .before .before .before .pre) (c .row .ensures) in
+part-row-fits-start c =
+    let z = row-words _ _ _ (c .before .before .before .pre) (c .row .ensures) in
     omega arith
 
 part-row-fits-end : tie.Need-part-row-fits-end
 part-row-fits-end c = search needs
 
 row-fits-requires : tie.Need-row-fits-requires
-row-fits-requires c κs = let z = part-length _ _ _ (c .before .before .before .before .pre) (c .before .row .ensures) in
+row-fits-requires c κs =
+    let z = part-length _ _ _ (c .before .before .before .before .pre) (c .before .row .ensures) in
     omega arith
 
 returns : tie.Need-returns

@@ -1,11 +1,8 @@
 -- `verify::equal_edges` meets its contract.
 use native.Mathlib.Omega.{arith}
 use borrow.Author.Needs.{needs}
-use Rattle.table.proofs.Laws.{tables-size, tables-words}
-use Rattle.verify.proofs.Steps.{laid-on, laid-end, laid-start, names-all, name-at, size-past, size-at, fresh-is, divides-one, divides-two, divides-four, divides-eight, divides-other, moved-other, moved-not, moved-on, look-open, look-seen, look-born, touch-free, touch-own, plain-constant, plain-copy, plain-move, plain-load, plain-store, store-closes, store-holds, touch-offset, touch-other, touch-load, touch-store, access-nothing, access-on, step-copy, step-constant, step-move, step-arithmetic, part-is, part-length, row-words}
 use borrow.Author.Tests.{not-true, not-false}
 use Rattle.verify.proofs.Ends.{equal-taken, equal-untaken, equal-both}
-use borrow.Author.Needs.{needs}
 use Rattle.verify.proofs.equal_edges.Statement.{statement}
 use Rattle.verify.proofs.equal_edges.Tie as tie
 
@@ -22,7 +19,11 @@ edge-requires : tie.Need-edge-requires
 edge-requires c κs = search needs
 
 returns : tie.Need-returns
-returns c = (λ place types code views fields since base. equal-taken _ _ _ _ _ _ _ _ _ _ _ _ _ _ _ _ _ _ _ (c .before .before .wide .ensures .0) (c .before .edge .ensures types) (not-true _ (c .if1 .taken)), omega arith)
+returns c = (
+  λ place types code views fields since base. equal-taken _ _ _ _ _ _ _ _ _ _ _ _ _ _ _ _ _ _ _ (c .before .before .wide .ensures .0)
+      (c .before .edge .ensures types) (not-true _ (c .if1 .taken)),
+  omega arith,
+)
 
 not-zero-requires : tie.Need-not-zero-requires
 not-zero-requires c κs = search needs
@@ -40,10 +41,26 @@ edge-requires-2 : tie.Need-edge-requires-2
 edge-requires-2 c κs = search needs
 
 returns-2 : tie.Need-returns-2
-returns-2 c = (λ place types code views fields since base. equal-untaken _ _ _ _ _ _ _ _ _ _ _ _ _ _ _ _ _ _ _ (c .before .before .before .before .before .before .before .before .wide .ensures .0) (c .before .before .before .before .before .before .before .edge .ensures types) (not-false _ (c .before .before .before .before .before .before .if1 .left)) _ _ (c .before .before .before .index .ensures .0) (c .before .before .before .before .not-zero .ensures _ _) _ (c .before .edge2 .ensures types) (not-true _ (c .if2 .taken)), omega arith)
+returns-2 c = (
+  λ place types code views fields since base. equal-untaken _ _ _ _ _ _ _ _ _ _ _ _ _ _ _ _ _ _ _
+      (c .before .before .before .before .before .before .before .before .wide .ensures .0)
+      (c .before .before .before .before .before .before .before .edge .ensures types) (not-false _
+      (c .before .before .before .before .before .before .if1 .left)) _ _ (c .before .before .before .index .ensures .0)
+      (c .before .before .before .before .not-zero .ensures _ _) _ (c .before .edge2 .ensures types) (not-true _
+      (c .if2 .taken)),
+  omega arith,
+)
 
 returns-3 : tie.Need-returns-3
-returns-3 c = (λ place types code views fields since base. equal-both _ _ _ _ _ _ _ _ _ _ _ _ _ _ _ _ _ _ _ (c .before .before .before .before .before .before .before .before .wide .ensures .0) (c .before .before .before .before .before .before .before .edge .ensures types) (not-false _ (c .before .before .before .before .before .before .if1 .left)) _ _ (c .before .before .before .index .ensures .0) (c .before .before .before .before .not-zero .ensures _ _) _ (c .before .edge2 .ensures types) (not-false _ (c .if2 .left)), omega arith)
+returns-3 c = (
+  λ place types code views fields since base. equal-both _ _ _ _ _ _ _ _ _ _ _ _ _ _ _ _ _ _ _
+      (c .before .before .before .before .before .before .before .before .wide .ensures .0)
+      (c .before .before .before .before .before .before .before .edge .ensures types) (not-false _
+      (c .before .before .before .before .before .before .if1 .left)) _ _ (c .before .before .before .index .ensures .0)
+      (c .before .before .before .before .not-zero .ensures _ _) _ (c .before .edge2 .ensures types) (not-false _
+      (c .if2 .left)),
+  omega arith,
+)
 
 pub equal-edges-spec : {M : Type 1} → statement M
 equal-edges-spec =

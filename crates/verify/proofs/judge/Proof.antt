@@ -2,8 +2,6 @@
 use mathlib.Core.Path.{_≡_}
 use Prim.Native.Nat.{_-_, _≤_}
 use native.Mathlib.Omega.{arith}
-use Rattle.table.proofs.Laws.{tables-size, tables-words}
-use Rattle.verify.proofs.Steps.{laid-on, laid-end, laid-start, names-all, name-at, size-past, size-at, fresh-is, divides-one, divides-two, divides-four, divides-eight, divides-other, moved-other, moved-not, moved-on, look-open, look-seen, look-born, touch-free, touch-own, plain-constant, plain-copy, plain-move, plain-load, plain-store, store-closes, store-holds, touch-offset, touch-other, touch-load, touch-store, access-nothing, access-on, step-copy, step-constant, step-move, step-arithmetic, part-is, part-length, row-words}
 use Rattle.table.proofs.Questions.{first-end}
 use Rattle.model.specs.Question.{firstNo}
 use Rattle.model.specs.Table.{tablesOf, routineOf, rows}
@@ -13,7 +11,9 @@ use Rattle.verify.proofs.judge.Statement.{statement}
 use Rattle.verify.proofs.judge.Tie as tie
 
 abbrev Inv-loop : tie.InvT-loop
-Inv-loop types tags blocks code starts count b₀ b = (judge (tablesOf types tags) (routineOf blocks code) ≡ firstNo (rows blocks - b) b (blockAsk (tablesOf types tags) (routineOf blocks code))) × (b ≤ rows blocks)
+Inv-loop types tags blocks code starts count b₀ b =
+    (judge (tablesOf types tags) (routineOf blocks code) ≡ firstNo (rows blocks - b) b (blockAsk (tablesOf types tags)
+    (routineOf blocks code))) × (b ≤ rows blocks)
 
 abbrev μ-loop : tie.MeasureT-loop
 μ-loop types tags blocks code starts count b₀ b = rows blocks - b
@@ -28,17 +28,30 @@ element-copy-out-block : tie.Need-element-copy-out-block Inv-loop μ-loop
 element-copy-out-block c = omega arith
 
 cast-block : tie.Need-cast-block Inv-loop μ-loop
-cast-block c = let e = c .before .before .before .before .before .before .before .pre .5 (c .before .before .loop .b) (omega arith) in
+cast-block c =
+    let e = c .before .before .before .before .before .before .before .pre .5 (c .before .before .loop .b) (omega arith) in
     let d = c .before .before .before .before .before .before .before .pre .4 (c .before .before .loop .b) (omega arith) in
     omega arith
 
 block-requires : tie.Need-block-requires Inv-loop μ-loop
-block-requires c κs = let e = c .before .before .before .before .before .before .before .pre .5 (c .before .before .loop .b) (omega arith) in
-    let d = c .before .before .before .before .before .before .before .pre .4 (c .before .before .loop .b) (omega arith) in
-    (omega arith, c .before .before .before .before .before .before .before .pre .0, e, d .0, d .1, omega arith, c .before .before .before .before .before .before .before .pre .1, c .before .before .before .before .before .before .before .pre .2, c .before .before .before .before .before .before .before .pre .3)
+block-requires c κs =
+    let e = c .before .before .before .before .before .before .before .pre .5 (c .before .before .loop .b) (omega arith) in
+    let d = c .before .before .before .before .before .before .before .pre .4 (c .before .before .loop .b) (omega arith) in (
+      omega arith,
+      c .before .before .before .before .before .before .before .pre .0,
+      e,
+      d .0,
+      d .1,
+      omega arith,
+      c .before .before .before .before .before .before .before .pre .1,
+      c .before .before .before .before .before .before .before .pre .2,
+      c .before .before .before .before .before .before .before .pre .3,
+    )
 
 returns : tie.Need-returns Inv-loop μ-loop
-returns c = judge-stops _ _ _ _ (c .before .before .before .before .before .loop .b) (c .before .before .before .before .before .loop .inv .0) (omega arith) _ (c .before .before .block .ensures) (c .if1 .taken)
+returns c =
+    judge-stops _ _ _ _ (c .before .before .before .before .before .loop .b) (c .before .before .before .before .before .loop .inv .0)
+    (omega arith) _ (c .before .before .block .ensures) (c .if1 .taken)
 
 add-b : tie.Need-add-b Inv-loop μ-loop
 add-b c = omega arith
@@ -47,7 +60,11 @@ loop-less : tie.Need-loop-less Inv-loop μ-loop
 loop-less c = omega arith
 
 loop-again : tie.Need-loop-again Inv-loop μ-loop
-loop-again c = (judge-on _ _ _ _ (c .before .before .before .before .before .loop .b) (c .before .before .before .before .before .loop .inv .0) (omega arith) _ (c .before .before .block .ensures) (c .if1 .left), omega arith)
+loop-again c = (
+  judge-on _ _ _ _ (c .before .before .before .before .before .loop .b) (c .before .before .before .before .before .loop .inv .0)
+      (omega arith) _ (c .before .before .block .ensures) (c .if1 .left),
+  omega arith,
+)
 
 returns-2 : tie.Need-returns-2 Inv-loop μ-loop
 returns-2 c = first-end _ _ (c .before .loop .b) _ (c .before .loop .inv .0) (omega arith)

@@ -5,8 +5,7 @@ use native.Mathlib.Omega.{arith}
 use lib.ListN.{length, drop}
 use denote.Ref.{now}
 use Rattle.model.specs.Reading.{laidAt}
-use Rattle.table.proofs.Laws.{tables-size, tables-words}
-use Rattle.verify.proofs.Steps.{laid-on, laid-end, laid-start, names-all, name-at, size-past, size-at, fresh-is, divides-one, divides-two, divides-four, divides-eight, divides-other, moved-other, moved-not, moved-on, look-open, look-seen, look-born, touch-free, touch-own, plain-constant, plain-copy, plain-move, plain-load, plain-store, store-closes, store-holds, touch-offset, touch-other, touch-load, touch-store, access-nothing, access-on, step-copy, step-constant, step-move, step-arithmetic, part-is, part-length, row-words}
+use Rattle.verify.proofs.Steps.{laid-on, laid-end, laid-start}
 use Rattle.verify.proofs.lay.Statement.{statement}
 use Rattle.verify.proofs.lay.Tie as tie
 
@@ -41,7 +40,11 @@ loop-less : tie.Need-loop-less Inv-loop μ-loop
 loop-less c = omega arith
 
 loop-again : tie.Need-loop-again Inv-loop μ-loop
-loop-again c = (c .before .before .loop .inv .0 ∙ laid-on _ _ _ (now (c .before .before .before .args .row)) (c .before .before .loop .k) _ (omega arith) (omega arith) refl, omega arith)
+loop-again c = (
+  c .before .before .loop .inv .0 ∙ laid-on _ _ _ (now (c .before .before .before .args .row)) (c .before .before .loop .k) _
+      (omega arith) (omega arith) refl,
+  omega arith,
+)
 
 returns : tie.Need-returns Inv-loop μ-loop
 returns c = sym (c .before .loop .inv .0 ∙ laid-end _ _ (now (c .before .before .args .row)) (c .before .loop .k) (omega arith))

@@ -1,9 +1,7 @@
 -- `verify::look` meets its contract.
 use native.Mathlib.Omega.{arith}
 use borrow.Author.Needs.{needs}
-use Rattle.table.proofs.Laws.{tables-size, tables-words}
-use Rattle.verify.proofs.Steps.{laid-on, laid-end, laid-start, names-all, name-at, size-past, size-at, fresh-is, divides-one, divides-two, divides-four, divides-eight, divides-other, moved-other, moved-not, moved-on, look-open, look-seen, look-born, touch-free, touch-own, plain-constant, plain-copy, plain-move, plain-load, plain-store, store-closes, store-holds, touch-offset, touch-other, touch-load, touch-store, access-nothing, access-on, step-copy, step-constant, step-move, step-arithmetic, part-is, part-length, row-words}
-use borrow.Author.Needs.{needs}
+use Rattle.verify.proofs.Steps.{look-open, look-seen, look-born, part-is, part-length, row-words}
 use Rattle.verify.proofs.look.Statement.{statement}
 use Rattle.verify.proofs.look.Tie as tie
 
@@ -23,17 +21,21 @@ name-all-requires : tie.Need-name-all-requires
 name-all-requires c κs = search needs
 
 returns-2 : tie.Need-returns-2
-returns-2 c = λ registers tags. look-seen _ _ _ _ _ _ _ _ _ _ _ _ _ (omega arith) _ (c .before .before .before .wide .ensures .0) (omega arith) _ (c .name-all .ensures)
+returns-2 c =
+    λ registers tags. look-seen _ _ _ _ _ _ _ _ _ _ _ _ _ (omega arith) _ (c .before .before .before .wide .ensures .0) (omega arith) _
+    (c .name-all .ensures)
 
 row-requires : tie.Need-row-requires
 row-requires c κs = search needs
 
 sub-lay : tie.Need-sub-lay
-sub-lay c = let z = row-words _ _ _ (omega arith) (c .before .row .ensures) in
+sub-lay c =
+    let z = row-words _ _ _ (omega arith) (c .before .row .ensures) in
     omega arith
 
 part-lay-start : tie.Need-part-lay-start
-part-lay-start c = let z = row-words _ _ _ (omega arith) (c .before .row .ensures) in
+part-lay-start c =
+    let z = row-words _ _ _ (omega arith) (c .before .row .ensures) in
     omega arith
 
 part-lay-end : tie.Need-part-lay-end
@@ -43,7 +45,8 @@ mul-lay : tie.Need-mul-lay
 mul-lay c = search needs
 
 lay-requires : tie.Need-lay-requires
-lay-requires c κs = let z = part-length _ _ _ (omega arith) (c .before .before .row .ensures) in
+lay-requires c κs =
+    let z = part-length _ _ _ (omega arith) (c .before .before .row .ensures) in
     omega arith
 
 cast-frames : tie.Need-cast-frames
@@ -74,7 +77,10 @@ name-all-requires-2 : tie.Need-name-all-requires-2
 name-all-requires-2 c κs = search needs
 
 returns-3 : tie.Need-returns-3
-returns-3 c = λ registers tags. look-born _ _ _ _ _ _ _ _ _ _ _ _ _ (omega arith) _ (c .before .before .before .before .before .before .before .wide .ensures .0) (omega arith) (omega arith) _ _ _ (part-is _ _ _ (c .before .before .before .before .before .row .ensures)) (c .before .before .lay .ensures) (c .name-all2 .ensures)
+returns-3 c =
+    λ registers tags. look-born _ _ _ _ _ _ _ _ _ _ _ _ _ (omega arith) _
+    (c .before .before .before .before .before .before .before .wide .ensures .0) (omega arith) (omega arith) _ _ _ (part-is _ _ _
+    (c .before .before .before .before .before .row .ensures)) (c .before .before .lay .ensures) (c .name-all2 .ensures)
 
 pub look-spec : {M : Type 1} → statement M
 look-spec =

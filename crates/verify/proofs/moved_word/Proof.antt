@@ -2,9 +2,7 @@
 use native.Mathlib.Omega.{arith}
 use borrow.Author.Needs.{needs}
 use Rattle.model.proofs.Logic.{told-no, told-yes}
-use Rattle.table.proofs.Laws.{tables-size, tables-words}
-use Rattle.verify.proofs.Steps.{laid-on, laid-end, laid-start, names-all, name-at, size-past, size-at, fresh-is, divides-one, divides-two, divides-four, divides-eight, divides-other, moved-other, moved-not, moved-on, look-open, look-seen, look-born, touch-free, touch-own, plain-constant, plain-copy, plain-move, plain-load, plain-store, store-closes, store-holds, touch-offset, touch-other, touch-load, touch-store, access-nothing, access-on, step-copy, step-constant, step-move, step-arithmetic, part-is, part-length, row-words}
-use borrow.Author.Needs.{needs}
+use Rattle.verify.proofs.Steps.{moved-other, moved-not, moved-on}
 use Rattle.verify.proofs.moved_word.Statement.{statement}
 use Rattle.verify.proofs.moved_word.Tie as tie
 
@@ -24,7 +22,9 @@ divides-requires : tie.Need-divides-requires
 divides-requires c κs = search needs
 
 returns-2 : tie.Need-returns-2
-returns-2 c = λ tags. moved-not _ _ _ _ (omega arith) _ _ (c .before .before .before .record-type .ensures .0) (c .before .before .size .ensures .0) (told-no (c .before .divides .ensures) (c .if2 .taken))
+returns-2 c =
+    λ tags. moved-not _ _ _ _ (omega arith) _ _ (c .before .before .before .record-type .ensures .0) (c .before .before .size .ensures .0)
+    (told-no (c .before .divides .ensures) (c .if2 .taken))
 
 mul-result : tie.Need-mul-result
 mul-result c = search needs
@@ -33,7 +33,9 @@ add-result : tie.Need-add-result
 add-result c = search needs
 
 returns-3 : tie.Need-returns-3
-returns-3 c = λ tags. moved-on _ _ _ _ (omega arith) _ _ (c .before .before .before .record-type .ensures .0) (c .before .before .size .ensures .0) (told-yes (c .before .divides .ensures) (c .if2 .left))
+returns-3 c =
+    λ tags. moved-on _ _ _ _ (omega arith) _ _ (c .before .before .before .record-type .ensures .0) (c .before .before .size .ensures .0)
+    (told-yes (c .before .divides .ensures) (c .if2 .left))
 
 pub moved-word-spec : {M : Type 1} → statement M
 moved-word-spec =

@@ -5,8 +5,7 @@ use native.Mathlib.Omega.{arith}
 use lib.ListN.{drop}
 use Rattle.model.specs.Reading.{laidAt, upFrom}
 use Rattle.model.proofs.Lists.{length-upFrom}
-use Rattle.table.proofs.Laws.{tables-size, tables-words}
-use Rattle.verify.proofs.Steps.{laid-on, laid-end, laid-start, names-all, name-at, size-past, size-at, fresh-is, divides-one, divides-two, divides-four, divides-eight, divides-other, moved-other, moved-not, moved-on, look-open, look-seen, look-born, touch-free, touch-own, plain-constant, plain-copy, plain-move, plain-load, plain-store, store-closes, store-holds, touch-offset, touch-other, touch-load, touch-store, access-nothing, access-on, step-copy, step-constant, step-move, step-arithmetic, part-is, part-length, row-words}
+use Rattle.verify.proofs.Steps.{laid-on, laid-end, names-all, name-at}
 use Rattle.verify.proofs.name_all.Statement.{statement}
 use Rattle.verify.proofs.name_all.Tie as tie
 
@@ -38,10 +37,19 @@ loop-less : tie.Need-loop-less Inv-loop μ-loop
 loop-less c = omega arith
 
 loop-again : tie.Need-loop-again Inv-loop μ-loop
-loop-again c = (c .before .loop .inv .0 ∙ laid-on _ _ _ (upFrom (c .before .before .args .first) 8) (c .before .loop .k) _ (omega (arith, length-upFrom (c .before .before .args .first) 8)) (omega arith) (name-at _ _ (omega arith)), omega arith)
+loop-again c = (
+  c .before .loop .inv .0 ∙ laid-on _ _ _ (upFrom (c .before .before .args .first) 8) (c .before .loop .k) _ (omega (
+    arith,
+    length-upFrom
+        (c .before .before .args .first) 8,
+  )) (omega arith) (name-at _ _ (omega arith)),
+  omega arith,
+)
 
 returns : tie.Need-returns Inv-loop μ-loop
-returns c = sym (c .before .loop .inv .0 ∙ laid-end _ _ (upFrom (c .before .before .args .first) 8) (c .before .loop .k) (omega (arith, length-upFrom (c .before .before .args .first) 8))) ∙ names-all _ _ (c .before .before .pre .1)
+returns c =
+    sym (c .before .loop .inv .0 ∙ laid-end _ _ (upFrom (c .before .before .args .first) 8) (c .before .loop .k) (omega
+    (arith, length-upFrom (c .before .before .args .first) 8))) ∙ names-all _ _ (c .before .before .pre .1)
 
 pub name-all-spec : {M : Type 1} → statement M
 name-all-spec =

@@ -2,10 +2,7 @@
 use native.Mathlib.Omega.{arith}
 use denote.Ref.{now}
 use borrow.Author.Needs.{needs}
-use Rattle.table.proofs.Laws.{tables-size, tables-words}
-use Rattle.verify.proofs.Steps.{laid-on, laid-end, laid-start, names-all, name-at, size-past, size-at, fresh-is, divides-one, divides-two, divides-four, divides-eight, divides-other, moved-other, moved-not, moved-on, look-open, look-seen, look-born, touch-free, touch-own, plain-constant, plain-copy, plain-move, plain-load, plain-store, store-closes, store-holds, touch-offset, touch-other, touch-load, touch-store, access-nothing, access-on, step-copy, step-constant, step-move, step-arithmetic, part-is, part-length, row-words}
 use Rattle.verify.proofs.Ends.{zero-tested, zero-maybe, zero-tagged, zero-other}
-use borrow.Author.Needs.{needs}
 use Rattle.verify.proofs.not_zero.Statement.{statement}
 use Rattle.verify.proofs.not_zero.Tie as tie
 
@@ -16,7 +13,9 @@ element-copy-out-w : tie.Need-element-copy-out-w
 element-copy-out-w c = search needs
 
 returns : tie.Need-returns
-returns c = λ frames constants. zero-tested (now (c .before .before .args .words)) frames constants (c .before .before .args .v) (c .before .before .args .k) (λ h. omega arith)
+returns c =
+    λ frames constants. zero-tested (now (c .before .before .args .words)) frames constants (c .before .before .args .v)
+    (c .before .before .args .k) (λ h. omega arith)
 
 kind-requires : tie.Need-kind-requires
 kind-requires c κs = search needs
@@ -28,7 +27,10 @@ add-result : tie.Need-add-result
 add-result c = search needs
 
 returns-2 : tie.Need-returns-2
-returns-2 c = λ frames constants. zero-maybe (now (c .before .before .before .before .args .words)) frames constants (c .before .before .before .before .args .v) (c .before .before .before .before .args .k) (omega arith) _ (c .before .kind .ensures .0) (omega arith)
+returns-2 c =
+    λ frames constants. zero-maybe (now (c .before .before .before .before .args .words)) frames constants
+    (c .before .before .before .before .args .v) (c .before .before .before .before .args .k) (omega arith) _ (c .before .kind .ensures .0)
+    (omega arith)
 
 mul-result-2 : tie.Need-mul-result-2
 mul-result-2 c = search needs
@@ -37,10 +39,16 @@ add-result-2 : tie.Need-add-result-2
 add-result-2 c = search needs
 
 returns-3 : tie.Need-returns-3
-returns-3 c = λ frames constants. zero-tagged (now (c .before .before .before .before .before .args .words)) frames constants (c .before .before .before .before .before .args .v) (c .before .before .before .before .before .args .k) (omega arith) _ (c .before .before .kind .ensures .0) (omega arith)
+returns-3 c =
+    λ frames constants. zero-tagged (now (c .before .before .before .before .before .args .words)) frames constants
+    (c .before .before .before .before .before .args .v) (c .before .before .before .before .before .args .k) (omega arith) _
+    (c .before .before .kind .ensures .0) (omega arith)
 
 returns-4 : tie.Need-returns-4
-returns-4 c = λ frames constants. zero-other (now (c .before .before .before .before .before .args .words)) frames constants (c .before .before .before .before .before .args .v) (c .before .before .before .before .before .args .k) (omega arith) _ (c .before .before .kind .ensures .0) (λ h. omega arith) (λ h. omega arith)
+returns-4 c =
+    λ frames constants. zero-other (now (c .before .before .before .before .before .args .words)) frames constants
+    (c .before .before .before .before .before .args .v) (c .before .before .before .before .before .args .k) (omega arith) _
+    (c .before .before .kind .ensures .0) (λ h. omega arith) (λ h. omega arith)
 
 pub not-zero-spec : {M : Type 1} → statement M
 not-zero-spec =

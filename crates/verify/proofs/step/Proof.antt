@@ -3,9 +3,7 @@ use native.Mathlib.Omega.{arith}
 use denote.Ref.{now}
 use borrow.Author.Needs.{needs}
 use Rattle.fits.proofs.Numbers.{frames-at}
-use Rattle.table.proofs.Laws.{tables-size, tables-words}
-use Rattle.verify.proofs.Steps.{laid-on, laid-end, laid-start, names-all, name-at, size-past, size-at, fresh-is, divides-one, divides-two, divides-four, divides-eight, divides-other, moved-other, moved-not, moved-on, look-open, look-seen, look-born, touch-free, touch-own, plain-constant, plain-copy, plain-move, plain-load, plain-store, store-closes, store-holds, touch-offset, touch-other, touch-load, touch-store, access-nothing, access-on, step-copy, step-constant, step-move, step-arithmetic, part-is, part-length, row-words}
-use borrow.Author.Needs.{needs}
+use Rattle.verify.proofs.Steps.{fresh-is, plain-constant, plain-copy, plain-move, step-copy, step-constant, step-move, step-arithmetic}
 use Rattle.verify.proofs.step.Statement.{statement}
 use Rattle.verify.proofs.step.Tie as tie
 
@@ -13,7 +11,17 @@ opcode-requires : tie.Need-opcode-requires
 opcode-requires c κs = search needs
 
 access-requires : tie.Need-access-requires
-access-requires c κs = (omega arith, c .before .before .before .before .before .before .before .before .before .before .pre .1, c .before .before .before .before .before .before .before .before .before .before .pre .2, c .before .before .before .before .before .before .before .before .before .before .pre .3, c .before .before .before .before .before .before .before .before .before .before .pre .4, c .before .before .before .before .before .before .before .before .before .before .pre .5, c .before .before .before .before .before .before .before .before .before .before .pre .6, c .before .before .before .before .before .before .before .before .before .before .pre .7, c .before .before .before .before .before .before .before .before .before .before .pre .8)
+access-requires c κs = (
+  omega arith,
+  c .before .before .before .before .before .before .before .before .before .before .pre .1,
+  c .before .before .before .before .before .before .before .before .before .before .pre .2,
+  c .before .before .before .before .before .before .before .before .before .before .pre .3,
+  c .before .before .before .before .before .before .before .before .before .before .pre .4,
+  c .before .before .before .before .before .before .before .before .before .before .pre .5,
+  c .before .before .before .before .before .before .before .before .before .before .pre .6,
+  c .before .before .before .before .before .before .before .before .before .before .pre .7,
+  c .before .before .before .before .before .before .before .before .before .before .pre .8,
+)
 
 returns : tie.Need-returns
 returns c = search needs
@@ -34,7 +42,15 @@ fresh-requires : tie.Need-fresh-requires
 fresh-requires c κs = search needs
 
 returns-2 : tie.Need-returns-2
-returns-2 c = (λ place. step-constant _ _ _ _ _ _ 0 _ _ (c .before .before .before .before .before .before .before .before .before .before .before .before .before .pre .5) _ (plain-constant _ _ _ _ (c .before .before .before .before .before .before .before .before .a .ensures .0) (c .before .before .before .before .before .before .before .b .ensures .0) (c .before .before .before .before .before .before .c .ensures .0) (omega arith)) (fresh-is _ _ _ _ _ _ _ _ _ _ _ _ _ _ _ _ _ (c .fresh .ensures .0) (c .fresh .ensures .1) (c .fresh .ensures .2) (c .fresh .ensures .3)), omega arith)
+returns-2 c = (
+  λ place. step-constant _ _ _ _ _ _ 0 _ _
+      (c .before .before .before .before .before .before .before .before .before .before .before .before .before .pre .5) _
+      (plain-constant _ _ _ _ (c .before .before .before .before .before .before .before .before .a .ensures .0)
+      (c .before .before .before .before .before .before .before .b .ensures .0)
+      (c .before .before .before .before .before .before .c .ensures .0) (omega arith)) (fresh-is _ _ _ _ _ _ _ _ _ _ _ _ _ _ _ _ _
+      (c .fresh .ensures .0) (c .fresh .ensures .1) (c .fresh .ensures .2) (c .fresh .ensures .3)),
+  omega arith,
+)
 
 element-copy-out-registers : tie.Need-element-copy-out-registers
 element-copy-out-registers c = search needs
@@ -43,13 +59,25 @@ element-write-registers : tie.Need-element-write-registers
 element-write-registers c = search needs
 
 returns-3 : tie.Need-returns-3
-returns-3 c = (λ place. step-copy _ _ _ _ _ _ _ 0 _ (c .before .before .before .before .before .before .before .before .before .before .pre .5) (plain-copy _ _ _ _ (c .before .before .before .before .before .a .ensures .0) (c .before .before .before .before .b .ensures .0) (c .before .before .before .c .ensures .0) (omega arith)), omega arith)
+returns-3 c = (
+  λ place. step-copy _ _ _ _ _ _ _ 0 _ (c .before .before .before .before .before .before .before .before .before .before .pre .5)
+      (plain-copy _ _ _ _ (c .before .before .before .before .before .a .ensures .0) (c .before .before .before .before .b .ensures .0)
+      (c .before .before .before .c .ensures .0) (omega arith)),
+  omega arith,
+)
 
 fresh-requires-2 : tie.Need-fresh-requires-2
 fresh-requires-2 c κs = search needs
 
 returns-4 : tie.Need-returns-4
-returns-4 c = (λ place. step-arithmetic _ _ _ _ _ _ 0 0 _ (c .before .before .before .before .before .before .before .before .before .before .before .before .before .before .before .pre .5) _ (omega arith) (omega arith) (c .before .before .before .before .before .before .before .before .before .before .a .ensures .0) (fresh-is _ _ _ _ _ _ _ _ _ _ _ _ _ _ _ _ _ (c .fresh2 .ensures .0) (c .fresh2 .ensures .1) (c .fresh2 .ensures .2) (c .fresh2 .ensures .3)), omega arith)
+returns-4 c = (
+  λ place. step-arithmetic _ _ _ _ _ _ 0 0 _
+      (c .before .before .before .before .before .before .before .before .before .before .before .before .before .before .before .pre .5) _
+      (omega arith) (omega arith) (c .before .before .before .before .before .before .before .before .before .before .a .ensures .0)
+      (fresh-is _ _ _ _ _ _ _ _ _ _ _ _ _ _ _ _ _ (c .fresh2 .ensures .0) (c .fresh2 .ensures .1) (c .fresh2 .ensures .2)
+      (c .fresh2 .ensures .3)),
+  omega arith,
+)
 
 element-copy-out-index : tie.Need-element-copy-out-index
 element-copy-out-index c = search needs
@@ -73,7 +101,11 @@ fresh-requires-3 : tie.Need-fresh-requires-3
 fresh-requires-3 c κs = search needs
 
 returns-5 : tie.Need-returns-5
-returns-5 c = (λ place. step-move _ _ _ _ _ _ _ _ _ (c .before .before .before .before .before .before .before .before .before .before .before .before .before .before .before .before .before .before .before .before .pre .5) _ (plain-move _ _ _ _ (c .before .before .before .before .before .before .before .before .before .before .before .before .before .before .before .a .ensures .0) (c .before .before .before .before .before .before .before .before .before .before .before .before .before .before .b .ensures .0) (c .before .before .before .before .before .before .before .before .before .before .before .before .before .c .ensures .0) (omega arith)) _ _ _ (c .before .before .before .before .before .before .before .before .index .ensures .0) (c .before .before .before .before .before .before .moved-word .ensures _) (frames-at (now (c .before .before .before .before .before .before .before .before .before .before .before .before .before .before .before .before .before .before .before .before .args .frames)) _) (fresh-is _ _ _ _ _ _ _ _ _ _ _ _ _ _ _ _ _ (c .fresh3 .ensures .0) (c .fresh3 .ensures .1) (c .fresh3 .ensures .2) (c .fresh3 .ensures .3)), omega arith)
+returns-5 c = (
+  λ place. step-move _ _ _ _ _ _ _ _ _
+      (c .before .before .before .before .before .before .before .before .before .before .before .before .before .before .before .before .before .before .before .before .pre .5) _ (plain-move _ _ _ _ (c .before .before .before .before .before .before .before .before .before .before .before .before .before .before .before .a .ensures .0) (c .before .before .before .before .before .before .before .before .before .before .before .before .before .before .b .ensures .0) (c .before .before .before .before .before .before .before .before .before .before .before .before .before .c .ensures .0) (omega arith)) _ _ _ (c .before .before .before .before .before .before .before .before .index .ensures .0) (c .before .before .before .before .before .before .moved-word .ensures _) (frames-at (now (c .before .before .before .before .before .before .before .before .before .before .before .before .before .before .before .before .before .before .before .before .args .frames)) _) (fresh-is _ _ _ _ _ _ _ _ _ _ _ _ _ _ _ _ _ (c .fresh3 .ensures .0) (c .fresh3 .ensures .1) (c .fresh3 .ensures .2) (c .fresh3 .ensures .3)),
+  omega arith,
+)
 
 pub step-spec : {M : Type 1} → statement M
 step-spec =

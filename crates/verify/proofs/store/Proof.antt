@@ -2,9 +2,7 @@
 use mathlib.Core.Path.{refl}
 use native.Mathlib.Omega.{arith}
 use borrow.Author.Needs.{needs}
-use Rattle.table.proofs.Laws.{tables-size, tables-words}
-use Rattle.verify.proofs.Steps.{laid-on, laid-end, laid-start, names-all, name-at, size-past, size-at, fresh-is, divides-one, divides-two, divides-four, divides-eight, divides-other, moved-other, moved-not, moved-on, look-open, look-seen, look-born, touch-free, touch-own, plain-constant, plain-copy, plain-move, plain-load, plain-store, store-closes, store-holds, touch-offset, touch-other, touch-load, touch-store, access-nothing, access-on, step-copy, step-constant, step-move, step-arithmetic, part-is, part-length, row-words}
-use borrow.Author.Needs.{needs}
+use Rattle.verify.proofs.Steps.{store-closes, store-holds, part-is, part-length, row-words}
 use Rattle.verify.proofs.store.Statement.{statement}
 use Rattle.verify.proofs.store.Tie as tie
 
@@ -15,28 +13,41 @@ row-requires : tie.Need-row-requires
 row-requires c κs = search needs
 
 sub-row-fits : tie.Need-sub-row-fits
-sub-row-fits c = let z = row-words _ _ _ (c .before .before .before .pre .3) (c .row .ensures) in
+sub-row-fits c =
+    let z = row-words _ _ _ (c .before .before .before .pre .3) (c .row .ensures) in
     omega arith
 
 part-row-fits-start : tie.Need-part-row-fits-start
-part-row-fits-start c = let z = row-words _ _ _ (c .before .before .before .pre .3) (c .row .ensures) in
+part-row-fits-start c =
+    let z = row-words _ _ _ (c .before .before .before .pre .3) (c .row .ensures) in
     omega arith
 
 part-row-fits-end : tie.Need-part-row-fits-end
 part-row-fits-end c = search needs
 
 row-fits-requires : tie.Need-row-fits-requires
-row-fits-requires c κs = let z = part-length _ _ _ (c .before .before .before .before .before .pre .3) (c .before .before .row .ensures) in
+row-fits-requires c κs =
+    let z = part-length _ _ _ (c .before .before .before .before .before .pre .3) (c .before .before .row .ensures) in
     omega arith
 
 cast-t24 : tie.Need-cast-t24
 cast-t24 c = search needs
 
 returns : tie.Need-returns
-returns c = (λ registers views base. store-closes _ _ _ _ _ _ _ _ _ _ _ _ _ _ _ _ _ _ (c .before .before .before .before .before .before .before .pre .0) (part-is _ _ _ (c .before .before .before .before .row .ensures)) (c .before .row-fits .ensures _) (c .if1 .taken), refl)
+returns c = (
+  λ registers views base. store-closes _ _ _ _ _ _ _ _ _ _ _ _ _ _ _ _ _ _
+      (c .before .before .before .before .before .before .before .pre .0) (part-is _ _ _ (c .before .before .before .before .row .ensures))
+      (c .before .row-fits .ensures _) (c .if1 .taken),
+  refl,
+)
 
 returns-2 : tie.Need-returns-2
-returns-2 c = (λ registers views base. store-holds _ _ _ _ _ _ _ _ _ _ _ _ _ _ _ _ _ _ (c .before .before .before .before .before .before .before .pre .0) (part-is _ _ _ (c .before .before .before .before .row .ensures)) (c .before .row-fits .ensures _) (c .if1 .left), refl)
+returns-2 c = (
+  λ registers views base. store-holds _ _ _ _ _ _ _ _ _ _ _ _ _ _ _ _ _ _
+      (c .before .before .before .before .before .before .before .pre .0) (part-is _ _ _ (c .before .before .before .before .row .ensures))
+      (c .before .row-fits .ensures _) (c .if1 .left),
+  refl,
+)
 
 pub store-spec : {M : Type 1} → statement M
 store-spec =
