@@ -1,29 +1,29 @@
--- What a passed layout gives, and one law for each answer to Q16, Q20, Q21 and the two checks.
+-- The table of owners of a passed layout, and one law for each answer to Q16, Q20, Q21 and the two checks.
 use mathlib.Core.Path.{_≡_, refl, sym, ap, _∙_}
 use mathlib.Core.Bool.{true}
-use mathlib.Core.List.{List, [], _∷_}
-use Prim.Native.Nat.{ℕ, zero, suc, _+_, _-_, _*_, _%_, _≤_, _<_}
+use mathlib.Core.List.{List}
+use Prim.Native.Nat.{ℕ, zero, suc, _+_, _-_, _*_, _≤_, _<_}
 use native.Mathlib.Numerals.{add-one}
 use native.Mathlib.Omega.{arith}
 use lib.ListN.{length, getD, take, drop, length-drop, drop-of-length-le, replicate, length-replicate}
 use lib.Seq.{take-all}
-use borrow.Author.Tests.{lt-ltb, le-ltb, ltb-true, eq-eqb, eqb-true, leb-true}
+use borrow.Author.Tests.{lt-ltb, le-ltb, ltb-true}
 use Rattle.model.specs.declared.Verdict.{Verdict}
 use Rattle.model.specs.Question.{q16, q20, q21, refusal, Outcome, ok, refused, ask, then, firstNo, passed, refusing, verdictOf}
-use Rattle.model.specs.Table.{rows, headOf, wordsOf, Tables, tablesOf, routineOf, typeLengthsAsk, typesAsk, wellMade}
+use Rattle.model.specs.Table.{rows, headOf, wordsOf, Tables, tablesOf, routineOf, wellMade}
 use Rattle.model.specs.Table.{codeLengthsAsk, lengthsAsk, annotationsAsk}
-use Rattle.model.specs.Allocation.{isAllocated, rowsAsk, allocationsAsk}
-use Rattle.model.specs.Machine.{startAsk, memoryLengthAsk}
+use Rattle.model.specs.Machine.{startAsk}
 use Rattle.model.specs.MemoryCheck.{recordsAsk, registerAsk, layoutAsk, memoryAsk, memoryCheck, entryAsk, entryCheck}
-use Rattle.model.proofs.Logic.{and-true, true-and, true-or, or-of-true, ask-ok, passed-then, ok-verdict}
-use Rattle.model.proofs.TableLaws.{rows-laid, memory-length}
+use Rattle.model.proofs.Logic.{ask-ok, passed-then, ok-verdict}
 use Rattle.table.proofs.Questions.{no-refusal, then-on, then-stops}
-use Rattle.table.proofs.Laws.{type-lengths-passed, size-bounds, field-well-made, annotation-well-made}
-use Rattle.memory.specs.Owners.{ownersOf, Placed, Owned}
-use Rattle.memory.specs.Search.{firstFalse, placeMeets, Sized}
+use Rattle.table.proofs.Laws.{annotation-well-made}
+use Rattle.layout.proofs.Layouts.{rows-from}
+use Rattle.layout.proofs.Passed.{layout-types, layout-memory, layout-even, layout-laid, layout-sizes, layout-row}
+use Rattle.meaning.specs.Owners.{ownersOf, Placed, Owned}
+use Rattle.meaning.specs.Search.{firstFalse, placeMeets, Sized}
+use Rattle.meaning.proofs.Owners.{owned}
+use Rattle.meaning.proofs.Search.{found, none-found, field-is, register-is}
 use Rattle.memory.specs.Entry.{routineAsk}
-use Rattle.memory.proofs.Owners.{owned, rows-from}
-use Rattle.memory.proofs.Search.{found, none-found, field-is, register-is}
 
 -- zeros, as many as there are addresses or any other number
 zero-at : (n x : ℕ) → _≡_ {A = ℕ} (getD (replicate n 0) x 0) 0
@@ -31,71 +31,17 @@ zero-at zero x = refl
 zero-at (suc n) zero = refl
 zero-at (suc n) (suc x) = zero-at n x
 
--- each row of a list is allocated
-row-allocated : (k : ℕ) (l : List ℕ) → k * 2 + 1 < length l → isAllocated l (getD l (k * 2) 0) (getD l (k * 2 + 1) 0) ≡ true
-unfolding isAllocated
-row-allocated k [] h = absurd (omega arith)
-row-allocated k (p ∷ []) h = absurd (omega arith)
-row-allocated zero (p ∷ t ∷ rest) h = true-or _ _ (true-and _ _ (eq-eqb p p refl) (eq-eqb t t refl))
-row-allocated (suc k) (p ∷ t ∷ rest) h =
-    let i : suc k * 2 ≡ suc (suc (k * 2)) = omega arith in
-    let j : suc k * 2 + 1 ≡ suc (suc (k * 2 + 1)) = omega arith in
-    rw (j, i) (or-of-true _ _ (row-allocated k rest (omega arith)))
-
--- ---- a passed layout
+-- ---- the table of owners of a passed layout
 
 module _ (types tags allocations : List ℕ) (top : ℕ) (q : layoutAsk types tags allocations top ≡ ok tt) where
-  layout-parts : (typeLengthsAsk (length types) (length tags) ≡ ok tt)
-      × (typesAsk (tablesOf types tags) ≡ ok tt)
-      × (memoryLengthAsk top ≡ ok tt)
-      × (allocationsAsk (tablesOf types tags) top allocations ≡ ok tt)
-  unfolding layoutAsk
-  layout-parts =
-      let (a, q₁) = passed-then _ _ q in
-      let (b, q₂) = passed-then _ _ q₁ in
-      let (c, d) = passed-then _ _ q₂ in
-      (a, b, c, d)
-
-  pub layout-types : length types ≤ 576
-  layout-types = type-lengths-passed (length types) (length tags) _ refl (ok-verdict _ (layout-parts .0)) .2
-
-  pub layout-memory : top ≤ 16384
-  layout-memory = memory-length top (layout-parts .2) .1
-
-  whole-rows : (length allocations % 2 ≡ 0) × (length allocations ≤ 8192) × (rowsAsk (tablesOf types tags) top allocations 0 1 ≡ ok tt)
-  unfolding allocationsAsk
-  whole-rows =
-      let (a, b) = ask-ok _ _ _ (layout-parts .3) in
-      let (c, d) = and-true _ _ a in
-      (eqb-true _ 0 c, leb-true _ _ d, b)
-
-  pub layout-even : length allocations % 2 ≡ 0
-  layout-even = whole-rows .0
-
-  pub layout-rows : length allocations ≤ 8192
-  layout-rows = whole-rows .1
-
-  layout-sizes : (t : ℕ) → t < rows types → (1 ≤ headOf types t) × (headOf types t ≤ 8)
-  layout-sizes t h = size-bounds types tags _ refl (ok-verdict _ (layout-parts .1)) t h
-
   pub layout-sized : Sized types
-  layout-sized t h = layout-sizes t h .0
-
-  -- each row: its type, size and place
-  pub layout-row : (k : ℕ) → k * 2 + 1 < length allocations
-      → (getD allocations (k * 2 + 1) 0 < rows types)
-      × (headOf types (getD allocations (k * 2 + 1) 0) ≤ 8)
-      × (getD allocations (k * 2) 0 + headOf types (getD allocations (k * 2 + 1) 0) ≤ top)
-  unfolding tablesOf
-  layout-row k h =
-      let R = rows-laid (tablesOf types tags) top allocations 0 1 _ _ (whole-rows .2) (row-allocated k allocations h) in
-      (R .exists, layout-sizes _ (R .exists) .1, R .inside)
+  layout-sized t h = layout-sizes types tags allocations top q t h .0
 
   pub layout-placed : Placed types allocations
   layout-placed = (
-    omega (arith, layout-types),
-    layout-even,
-    λ k h. let (a, b, c) = layout-row k h in (a, layout-sized _ a, omega (arith, c, layout-memory)),
+    omega (arith, layout-types types tags allocations top q),
+    layout-even types tags allocations top q,
+    λ k h. let (a, b, c) = layout-row types tags allocations top q k h in (a, layout-sized _ a, omega (arith, c, layout-memory types tags allocations top q)),
   )
 
   -- the table filled from zeros
@@ -103,11 +49,8 @@ module _ (types tags allocations : List ℕ) (top : ℕ) (q : layoutAsk types ta
       → Owned (tablesOf types tags) allocations owners
   unfolding tablesOf
   layout-owned n owners h e =
-      owned (tablesOf types tags) top layout-memory layout-sized (replicate n 0) (length-replicate n 0 ∙ h) (zero-at n) allocations owners (whole-rows .2) e
-
-  pub layout-well : (t n : ℕ) → t < rows types → n ≡ headOf types t → (i : ℕ) → i < n → wellMade (rows types) n (getD (wordsOf types t) i 0) ≡ true
-  layout-well t n h e i l =
-      rw e (field-well-made types tags _ refl (ok-verdict _ (layout-parts .1)) t i h (omega (arith, layout-sizes t h)) (omega arith))
+      owned (tablesOf types tags) top (layout-memory types tags allocations top q) layout-sized (replicate n 0) (length-replicate n 0 ∙ h) (zero-at n) allocations owners
+      (layout-laid types tags allocations top q) e
 
 -- ---- the words of memory from p on, as a part of memory
 

@@ -1,4 +1,2 @@
 -- Definitions of the crate.
-pub mod Owners
-pub mod Search
 pub mod Entry

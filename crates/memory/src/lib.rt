@@ -1,4 +1,4 @@
-// Memory: its length and the allocations (Q17, Q19), the memory check (Q20) and the entry check (Q21).
+// The memory check (Q20) and the entry check (Q16, Q21).
 ghost use mathlib.Core.Path.{_≡_};
 ghost use mathlib.Core.Bool.{true};
 ghost use mathlib.Core.List.{List};
@@ -7,15 +7,12 @@ ghost use lib.ListN.{length, getD};
 ghost use Rattle.model.specs.Question.{ok, firstNo, verdictOf};
 ghost use Rattle.model.specs.Table.{rows, wordsOf, tablesOf, wellMade};
 ghost use Rattle.model.specs.MemoryCheck.{recordsAsk, registerAsk, layoutAsk, memoryCheck, entryCheck};
-ghost use Rattle.memory.specs.Owners.{Owned};
-ghost use Rattle.memory.specs.Search.{Sized};
+ghost use Rattle.meaning.specs.Owners.{Owned};
+ghost use Rattle.meaning.specs.Search.{Sized};
 ghost use Rattle.memory.specs.Entry.{routineAsk};
+use layout::answer;
+use meaning::owner;
 use model::Verdict;
-
-mod answer;
-pub mod layout;
-mod meaning;
-mod owner;
 
 // Words of an allocation row: start and record type.
 const ROW_WORDS: usize = 2;

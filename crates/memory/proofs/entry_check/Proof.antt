@@ -3,7 +3,8 @@ use mathlib.Core.Path.{refl, _∙_}
 use native.Mathlib.Omega.{arith}
 use denote.Ref.{now}
 use Rattle.table.proofs.Questions.{no-refusal}
-use Rattle.memory.proofs.Checks.{layout-types, layout-sized, layout-placed, layout-owned, memory-laid}
+use Rattle.layout.proofs.Passed.{layout-types}
+use Rattle.memory.proofs.Checks.{layout-sized, layout-placed, layout-owned, memory-laid}
 use Rattle.memory.proofs.Checks.{routine-block, routine-well, entry-stop-layout, entry-stop-routine, entry-to-registers}
 use borrow.Author.Needs.{needs}
 use Rattle.memory.proofs.entry_check.Statement.{statement}

@@ -6,7 +6,8 @@ use denote.Ref.{now}
 use lib.ListN.{length, drop}
 use Rattle.model.specs.Table.{tablesOf}
 use Rattle.model.specs.MemoryCheck.{recordsAsk}
-use Rattle.memory.proofs.Checks.{layout-rows, layout-even, layout-sized, layout-row, layout-well, tail-length, records-on, records-stop, records-end}
+use Rattle.layout.proofs.Passed.{layout-rows, layout-even, layout-row, layout-well}
+use Rattle.memory.proofs.Checks.{layout-sized, tail-length, records-on, records-stop, records-end}
 use Rattle.memory.proofs.records.Statement.{statement}
 use Rattle.memory.proofs.records.Tie as tie
 

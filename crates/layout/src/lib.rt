@@ -1,0 +1,113 @@
+// The layout of memory: its length (Q17) and the allocations (Q19), asked after Q1 to Q4.
+ghost use mathlib.Core.Path.{_≡_};
+ghost use mathlib.Core.List.{List};
+ghost use Prim.Native.Nat.{ℕ, _%_, _≤_};
+ghost use lib.ListN.{length};
+ghost use Rattle.model.specs.Question.{verdictOf};
+ghost use Rattle.model.specs.Table.{tablesOf};
+ghost use Rattle.model.specs.Allocation.{laid, rowsAsk, allocationsAsk};
+ghost use Rattle.model.specs.Machine.{memoryLengthAsk};
+ghost use Rattle.model.specs.MemoryCheck.{layoutAsk};
+use model::Verdict;
+
+pub mod answer;
+
+// Words of an allocation row: start and record type.
+const ROW_WORDS: usize = 2;
+
+// Words of a row of the type table.
+const TABLE_ROW_WORDS: usize = 9;
+
+// Memory has from one word to this many.
+const MOST_MEMORY: usize = 16384;
+
+// The most words that the allocation rows may have.
+const MOST_ALLOCATIONS: usize = 8192;
+
+// No record starts at address 0.
+const FIRST_START: usize = 1;
+
+// The numbers of the questions.
+const MEMORY_LENGTH: u32 = 17;
+
+const ALLOCATION: u32 = 19;
+
+// Q17.
+pub fn memory_length(n: usize) -> Verdict
+    ensures { λ r. ⌜ r ≡ verdictOf (memoryLengthAsk n) ⌝ }
+{
+    if n < 1 {
+        return answer::refused(MEMORY_LENGTH, 0, 0);
+    }
+    if MOST_MEMORY < n {
+        return answer::refused(MEMORY_LENGTH, 0, 0);
+    }
+    answer::passed()
+}
+
+// Whether the record of type t at p is at or above low, and with all its words below top.
+fn is_laid(types: &[u32], top: usize, low: usize, p: u32, t: u32) -> bool
+    ensures { λ r. ⌜ ((tags : List ℕ) → r ≡ laid (tablesOf (now (types .entry)) tags) top low p t) ⌝ }
+{
+    if types.len() / TABLE_ROW_WORDS <= (t as usize) {
+        return false;
+    }
+    let start = p as usize;
+    if start < low {
+        return false;
+    }
+    let end = start + (table::head(types, t as usize) as usize);
+    end <= top
+}
+
+// Q19 of whole rows. The contract holds for any tags: they have no part in Q19.
+fn rows(types: &[u32], allocations: &[u32], top: usize) -> Verdict
+    requires { ⌜ (length (now allocations) % 2 ≡ 0) × (length (now allocations) ≤ 8192) ⌝ }
+    ensures { λ r. ⌜ ((tags : List ℕ) → r ≡ verdictOf (rowsAsk (tablesOf (now (types .entry)) tags) top (now (allocations .entry)) 0 1)) ⌝ }
+{
+    let count = allocations.len() / ROW_WORDS;
+    let mut low = FIRST_START;
+    let mut k = 0;
+    while k < count {
+        let p = allocations[k * ROW_WORDS];
+        let t = allocations[k * ROW_WORDS + 1];
+        if !is_laid(types, top, low, p, t) {
+            return answer::refused(ALLOCATION, k, 0);
+        }
+        low = (p as usize) + (table::head(types, t as usize) as usize);
+        k += 1;
+    }
+    answer::passed()
+}
+
+// Q19.
+fn allocations(types: &[u32], allocations: &[u32], top: usize) -> Verdict
+    ensures { λ r. ⌜ ((tags : List ℕ) → r ≡ verdictOf (allocationsAsk (tablesOf (now (types .entry)) tags) top (now (allocations .entry)))) ⌝ }
+{
+    if allocations.len() % ROW_WORDS != 0 {
+        return answer::refused(ALLOCATION, 0, 0);
+    }
+    if MOST_ALLOCATIONS < allocations.len() {
+        return answer::refused(ALLOCATION, 0, 0);
+    }
+    rows(types, allocations, top)
+}
+
+// Q1 to Q4 for types and tags, Q17 and Q19, over memory of top words.
+pub fn layout(types: &[u32], tags: &[u32], allocations: &[u32], top: usize) -> Verdict
+    ensures { λ r. ⌜ r ≡ verdictOf (layoutAsk (now (types .entry)) (now (tags .entry)) (now (allocations .entry)) top) ⌝ }
+{
+    let lengths = table::type_lengths(types.len(), tags.len());
+    if lengths.number != 0 {
+        return lengths;
+    }
+    let made = table::types(types, tags);
+    if made.number != 0 {
+        return made;
+    }
+    let memory = memory_length(top);
+    if memory.number != 0 {
+        return memory;
+    }
+    self::allocations(types, allocations, top)
+}

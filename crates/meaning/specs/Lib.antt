@@ -1,0 +1,3 @@
+-- Definitions of the crate.
+pub mod Owners
+pub mod Search
