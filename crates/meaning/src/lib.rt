@@ -4,6 +4,7 @@ ghost use mathlib.Core.Bool.{true};
 ghost use mathlib.Core.List.{List};
 ghost use Prim.Native.Nat.{ℕ, _+_, _-_, _*_, _≤_, _<_};
 ghost use lib.ListN.{length, getD};
+ghost use Rattle.model.specs.Word.{difference};
 ghost use Rattle.model.specs.Types.{typeOf, depOf, wordOf};
 ghost use Rattle.model.specs.Table.{Tables, tablesOf, rows, wordsOf, wellMade};
 ghost use Rattle.model.specs.MemoryCheck.{runTest, rankTest, tagTest, meets};
@@ -70,6 +71,14 @@ fn is_placed(kind: u32, d: u32, e: u32, p: u32) -> bool
     p < e
 }
 
+// How far p is from d, upwards. Below d this wraps, so that p = d - n is in step with records of n words from d on only where
+// n divides 2^32.
+fn distance(d: u32, p: u32) -> u32
+    ensures { λ r. ⌜ r ≡ difference p d ⌝ }
+{
+    word::difference(p, d)
+}
+
 // Whether records of type t stand from d to e without a gap and p is in step with them. The table of owners has the end of
 // the run from d, so that no element is looked at.
 fn is_run(types: &[u32], owners: &[u32; 16384], t: u32, d: u32, e: u32, p: u32) -> bool
@@ -90,7 +99,7 @@ fn is_run(types: &[u32], owners: &[u32; 16384], t: u32, d: u32, e: u32, p: u32) 
     if (e - d) % n != 0 {
         return false;
     }
-    word::difference(p, d) % n == 0
+    distance(d, p) % n == 0
 }
 
 // Whether word p meets type word w, whose names stand for the words of names.

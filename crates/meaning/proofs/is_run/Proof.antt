@@ -44,8 +44,8 @@ returns-4 c = λ tags allocations I.
     run-broken _ _ _ _ I _ _ _ _ (omega arith) (s .pre .1 _ (s .pre .0)) (told-yes (b .before .starts .ensures) (b .if2 .left))
     (omega (arith, c .before .before .before .run-end .ensures)) _ (c .before .head .ensures) (c .if4 .taken)
 
-difference-requires : tie.Need-difference-requires
-difference-requires c κs = search needs
+distance-requires : tie.Need-distance-requires
+distance-requires c κs = search needs
 
 rem-result : tie.Need-rem-result
 rem-result c =
@@ -59,7 +59,7 @@ returns-5 c = λ tags allocations I.
     let s = b .before .before .before .before in
     run-aligned _ _ _ _ I _ _ _ _ (omega arith) (s .pre .1 _ (s .pre .0)) (told-yes (b .before .starts .ensures) (b .if2 .left))
     (omega (arith, c .before .before .before .before .run-end .ensures)) _ (c .before .before .head .ensures) (c .before .if4 .left)
-    _ (c .difference .ensures)
+    _ (c .distance .ensures)
 
 pub is-run-spec : {M : Type 1} → statement M
 is-run-spec =
@@ -74,6 +74,6 @@ is-run-spec =
     sub-if4
     rem-if4
     returns-4
-    difference-requires
+    distance-requires
     rem-result
     returns-5)
