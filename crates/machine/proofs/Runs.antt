@@ -159,21 +159,6 @@ module _ (P : Routine) where
   unfolding runBlocks answerOf
   run-pauses budget f b i r m h ei = rw (sub-eq-zero-of-le h, ei, add-zero (P .start b))
 
--- ---- Q17
-
-module _ (n : ℕ) where
-  pub memory-none : n < 1 → refusing (refusal q17 0 0) ≡ verdictOf (memoryLengthAsk n)
-  unfolding verdictOf memoryLengthAsk ask _and_
-  memory-none h = rw (lt-leb 1 n h)
-
-  pub memory-long : 1 ≤ n → 16384 < n → refusing (refusal q17 0 0) ≡ verdictOf (memoryLengthAsk n)
-  unfolding verdictOf memoryLengthAsk ask _and_
-  memory-long h l = rw (le-leb 1 n h, lt-leb n 16384 l)
-
-  pub memory-passes : 1 ≤ n → n ≤ 16384 → passed ≡ verdictOf (memoryLengthAsk n)
-  unfolding verdictOf memoryLengthAsk ask _and_
-  memory-passes h l = rw (le-leb 1 n h, le-leb n 16384 l)
-
 -- ---- the opening questions
 
 opened-no : (o : Outcome (Unit {0})) (P : Routine) (m : List ℕ) (b : ℕ) (r : List ℕ) (k : ℕ) (v : Verdict) → v ≡ verdictOf o → (v .number ≡ 0 → ⊥)

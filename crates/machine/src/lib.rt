@@ -5,11 +5,11 @@ ghost use mathlib.Core.List.{List};
 ghost use Prim.Native.Nat.{ℕ, suc, _+_, _-_, _/_, _<_, _≤_};
 ghost use lib.Dec.{ltb, eqb};
 ghost use lib.ListN.{length, getD, set};
-ghost use Rattle.model.specs.Question.{pick, ok, verdictOf};
+ghost use Rattle.model.specs.Question.{pick, ok};
 ghost use Rattle.model.specs.Word.{aOf, sum, signed, moved};
 ghost use Rattle.model.specs.Table.{Routine, routineOf, startOf, rows, lengthsAsk};
 ghost use Rattle.model.specs.Machine.{Plain, plain, decode, wellFormed, put, effect};
-ghost use Rattle.model.specs.Machine.{perform, steps, memoryLengthAsk, run, returned};
+ghost use Rattle.model.specs.Machine.{perform, steps, run, returned};
 ghost use Rattle.machine.specs.Answer.{at, stepOf, past, exitOf, Covers, ranOf};
 use model::RunAnswer;
 use model::Verdict;
@@ -274,17 +274,12 @@ fn run_block(part: &[u32], registers: [u32; 8], memory: &mut [u32], b: u32, coun
 // Words of a row of the block table.
 const ROW_WORDS: usize = 9;
 
-// The most words of memory; at least there is one.
-const MOST_MEMORY: usize = 16384;
-
-// The numbers of a halt, of a pause and of the questions Q16 and Q17.
+// The numbers of a halt, of a pause and of Q16.
 const HALTED: u32 = 0;
 
 const PAUSED: u32 = 40;
 
 const START_BLOCK: u32 = 16;
-
-const MEMORY_LENGTH: u32 = 17;
 
 // A verdict at 0, 0.
 fn at_origin(number: u32) -> Verdict
@@ -295,19 +290,6 @@ fn at_origin(number: u32) -> Verdict
         first: 0,
         second: 0,
     }
-}
-
-// Q17.
-fn memory_length(n: usize) -> Verdict
-    ensures { λ r. ⌜ r ≡ verdictOf (memoryLengthAsk n) ⌝ }
-{
-    if n < 1 {
-        return at_origin(MEMORY_LENGTH);
-    }
-    if MOST_MEMORY < n {
-        return at_origin(MEMORY_LENGTH);
-    }
-    at_origin(0)
 }
 
 // A run's answer.
@@ -397,7 +379,7 @@ pub fn run(
     if blocks.len() / ROW_WORDS <= block as usize {
         return refused(at_origin(START_BLOCK), registers);
     }
-    let words = memory_length(memory.len());
+    let words = layout::memory_length(memory.len());
     if words.number != 0 {
         return refused(words, registers);
     }
