@@ -7,9 +7,9 @@ use native.Mathlib.Nat.{zero-add, add-zero, sub-eq-zero-of-le}
 use native.Mathlib.Numerals.{add-one}
 use native.Mathlib.Omega.{arith}
 use lib.ListN.{length, take, drop, length-take, length-drop}
-use borrow.Author.Tests.{ne-eqb, lt-ltb, le-ltb, lt-leb, le-leb}
+use borrow.Author.Tests.{ne-eqb, lt-ltb, le-ltb}
 use Rattle.model.specs.declared.Verdict.{Verdict}
-use Rattle.model.specs.Question.{_and_, Question, numberOf, q1, q8, q9, q16, q17, q18, q22, refusal, Outcome, ok, refused, ask, then, passed, refusing, verdictOf}
+use Rattle.model.specs.Question.{Question, numberOf, q1, q8, q9, q16, q18, q22, refusal, Outcome, ok, refused, ask, then, refusing, verdictOf}
 use Rattle.model.specs.Table.{Routine, routineOf, startOf, headOf, rows, codeLengthsAsk, lengthsAsk}
 use Rattle.model.specs.Machine.{Instruction, plain, end, malformed, instructionAt, Next, stop, enter, next, State, Step, goes, halts, faults, need, leave, perform, step, Ran, halted, paused, faulted, onward, finish, steps, runBlocks, Run, answerOf, startAsk, memoryLengthAsk, runAsk, opened, run}
 use Rattle.model.proofs.Logic.{byEqual}
