@@ -21,8 +21,9 @@ use Rattle.model.proofs.Lists.{length-upFrom}
 use Rattle.model.proofs.Inversion.{record-ok}
 use Rattle.table.proofs.Questions.{left, no-refusal, then-on, then-stops, first-on}
 use Rattle.fits.specs.Numbers.{framesOf, valuesOf}
-use Rattle.verify.proofs.Steps.{size-past}
-use Rattle.verify.specs.State.{viewsOf, reading, questionOf, numbered, earlyAsk, lastAsk}
+use Rattle.straight.specs.State.{viewsOf, reading, questionOf, numbered, earlyAsk}
+use Rattle.straight.proofs.Steps.{size-past}
+use Rattle.branch.specs.End.{lastAsk}
 
 -- ---- numbers
 

@@ -1,4 +1,2 @@
 -- Laws of the crate: one for each way out of a function.
-pub mod Steps
-pub mod Ends
 pub mod Blocks

@@ -5,11 +5,11 @@ use native.Mathlib.Omega.{arith}
 use lib.ListN.{length}
 use denote.Ref.{now}
 use Rattle.model.specs.Reading.{laidAt}
-use Rattle.verify.proofs.Steps.{part-is, part-length, row-words}
+use Rattle.straight.proofs.Steps.{part-is, part-length, row-words}
 use Rattle.model.specs.Question.{Outcome, verdictOf}
 use Rattle.model.specs.Table.{tablesOf, routineOf}
 use Rattle.model.specs.Check.{readOn, blockAsk}
-use Rattle.verify.specs.State.{reading}
+use Rattle.straight.specs.State.{reading}
 use Rattle.verify.proofs.Blocks.{read-on, read-stops, read-ends, read-refuses, eight-early, block-begins, long-is, part-of, at-start, part-long}
 use Rattle.verify.proofs.block.Statement.{statement}
 use Rattle.verify.proofs.block.Tie as tie

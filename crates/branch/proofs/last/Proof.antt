@@ -1,0 +1,56 @@
+-- `branch::last` meets its contract.
+use mathlib.Core.Path.{_∙_}
+use native.Mathlib.Omega.{arith}
+use borrow.Author.Needs.{needs}
+use Rattle.table.proofs.Laws.{routine-count}
+use Rattle.instruction.proofs.Forms.{registers, known}
+use Rattle.straight.proofs.Forms.{form-bound}
+use Rattle.branch.proofs.Ends.{decode-end, last-form, last-targets, last-no, targets-of, last-open, last-on}
+use Rattle.branch.proofs.last.Statement.{statement}
+use Rattle.branch.proofs.last.Tie as tie
+
+cast-count : tie.Need-cast-count
+cast-count c = search needs
+
+cast-form : tie.Need-cast-form
+cast-form c = search needs
+
+form-requires : tie.Need-form-requires
+form-requires c κs = search needs
+
+returns : tie.Need-returns
+returns c = (
+  λ place types code views fields since. last-no _ _ _ _ _ (c .if1 .taken) _ _ _ (routine-count _ code)
+      (c .before .form .ensures),
+  form-bound _ _ _ _ _ (c .before .form .ensures),
+)
+
+returns-2 : tie.Need-returns-2
+returns-2 c =
+    let f = last-form _ _ _ _ (c .before .before .form .ensures) (c .before .if1 .left) in
+    let t = last-targets _ _ _ _ (c .before .before .form .ensures) (c .before .if1 .left) in (
+      λ place types code views fields since. last-open _ _ _ _ _ _ (decode-end _ (f .0) (f .1)) (targets-of _ code _ _ t)
+          (omega arith),
+      omega arith,
+    )
+
+edges-requires : tie.Need-edges-requires
+edges-requires c κs =
+    let f = last-form _ _ _ _ (c .before .before .before .form .ensures) (c .before .before .if1 .left) in
+    let t = last-targets _ _ _ _ (c .before .before .before .form .ensures) (c .before .before .if1 .left) in
+    let r = registers _ (f .0) in
+    (r .0, r .1, known _ (f .0), f .1, c .before .before .before .before .before .before .pre .0, t)
+
+returns-3 : tie.Need-returns-3
+returns-3 c =
+    let f = last-form _ _ _ _ (c .before .before .before .before .form .ensures) (c .before .before .before .if1 .left) in
+    let t = last-targets _ _ _ _ (c .before .before .before .before .form .ensures) (c .before .before .before .if1 .left) in (
+      λ place types code views fields since. c .edges .ensures .0 place types code views fields since _ ∙ last-on _ _ _ _ _ _ (decode-end _
+          (f .0) (f .1)) (targets-of _ code _ _ t) (omega arith),
+      c .edges .ensures .1,
+    )
+
+pub last-spec : {M : Type 1} → statement M
+last-spec =
+    tie.close
+    (tie.spec cast-count cast-form form-requires returns returns-2 edges-requires returns-3)

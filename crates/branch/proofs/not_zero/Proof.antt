@@ -1,0 +1,67 @@
+-- `branch::not_zero` meets its contract.
+use native.Mathlib.Omega.{arith}
+use denote.Ref.{now}
+use borrow.Author.Needs.{needs}
+use Rattle.branch.proofs.Ends.{zero-tested, zero-maybe, zero-tagged, zero-other}
+use Rattle.branch.proofs.not_zero.Statement.{statement}
+use Rattle.branch.proofs.not_zero.Tie as tie
+
+mul-w : tie.Need-mul-w
+mul-w c = search needs
+
+element-copy-out-w : tie.Need-element-copy-out-w
+element-copy-out-w c = search needs
+
+returns : tie.Need-returns
+returns c =
+    λ frames constants. zero-tested (now (c .before .before .args .words)) frames constants (c .before .before .args .v)
+    (c .before .before .args .k) (λ h. omega arith)
+
+kind-requires : tie.Need-kind-requires
+kind-requires c κs = search needs
+
+mul-result : tie.Need-mul-result
+mul-result c = search needs
+
+add-result : tie.Need-add-result
+add-result c = search needs
+
+returns-2 : tie.Need-returns-2
+returns-2 c =
+    λ frames constants. zero-maybe (now (c .before .before .before .before .args .words)) frames constants
+    (c .before .before .before .before .args .v) (c .before .before .before .before .args .k) (omega arith) _ (c .before .kind .ensures .0)
+    (omega arith)
+
+mul-result-2 : tie.Need-mul-result-2
+mul-result-2 c = search needs
+
+add-result-2 : tie.Need-add-result-2
+add-result-2 c = search needs
+
+returns-3 : tie.Need-returns-3
+returns-3 c =
+    λ frames constants. zero-tagged (now (c .before .before .before .before .before .args .words)) frames constants
+    (c .before .before .before .before .before .args .v) (c .before .before .before .before .before .args .k) (omega arith) _
+    (c .before .before .kind .ensures .0) (omega arith)
+
+returns-4 : tie.Need-returns-4
+returns-4 c =
+    λ frames constants. zero-other (now (c .before .before .before .before .before .args .words)) frames constants
+    (c .before .before .before .before .before .args .v) (c .before .before .before .before .before .args .k) (omega arith) _
+    (c .before .before .kind .ensures .0) (λ h. omega arith) (λ h. omega arith)
+
+pub not-zero-spec : {M : Type 1} → statement M
+not-zero-spec =
+    tie.close
+    (tie.spec
+    mul-w
+    element-copy-out-w
+    returns
+    kind-requires
+    mul-result
+    add-result
+    returns-2
+    mul-result-2
+    add-result-2
+    returns-3
+    returns-4)

@@ -1,0 +1,27 @@
+-- The last instruction of a block: the end that a well-formed word is, and its questions.
+use mathlib.Core.List.{[], _∷_}
+use Prim.Native.Nat.{ℕ, suc, _-_, _/_, _%_}
+use mathlib.Core.Bool.{not}
+use lib.Dec.{eqb}
+use lib.ListN.{getD}
+use Rattle.model.specs.Question.{pick, Question, q7, q8, q9, q13, Refusal, Outcome, refused, ask}
+use Rattle.model.specs.Word.{opcodeOf, aOf, bOf, cOf}
+use Rattle.model.specs.Table.{Tables, Routine}
+use Rattle.model.specs.Machine.{End, halt, jump, ifEqual, ifLess, Instruction, plain, end, malformed, targetsExist}
+use Rattle.model.specs.Reading.{Reading, isOpen}
+use Rattle.model.specs.Check.{readEdges}
+
+-- a well-formed word with opcode 0, 10, 11 or 12
+unfoldable pub endOf : ℕ → End
+endOf w =
+    pick (eqb (opcodeOf w) 0) halt
+    (getD (jump (cOf w) ∷ ifEqual (aOf w) (cOf w / 256) (cOf w % 256) ∷ ifLess (aOf w) (bOf w) (cOf w) ∷ []) (opcodeOf w - 10) halt)
+
+-- Q7 to Q9 and Q13 to Q15 of the last instruction of block b
+unfoldable pub lastAsk : Tables → Routine → (Question → Refusal) → ℕ → Instruction → Reading → Outcome (Unit {0})
+lastAsk 𝒯 P place b malformed st = refused (place q7)
+lastAsk 𝒯 P place b (plain x) st = refused (place q8)
+lastAsk 𝒯 P place b (end e) st =
+    ask (targetsExist (P .count) b e) (place q9) λ _.
+    ask (not (isOpen st)) (place q13) λ _.
+    readEdges 𝒯 P place (suc b) e st

@@ -1,0 +1,330 @@
+// The last instruction of a block: Q7 to Q9 and Q13 to Q15, and what an edge tells.
+ghost use mathlib.Core.Path.{_≡_};
+ghost use mathlib.Core.List.{List};
+ghost use Prim.Native.Nat.{ℕ, suc, _+_, _*_, _≤_, _<_};
+ghost use lib.ListN.{length, set};
+ghost use lib.Dec.{eqb};
+ghost use mathlib.Core.Bool.{true};
+ghost use Rattle.model.specs.Question.{pick, Question, Refusal};
+ghost use Rattle.model.specs.Word.{opcodeOf, aOf, bOf};
+ghost use Rattle.model.specs.Table.{rows, tablesOf, routineOf, wordsOf};
+ghost use Rattle.model.specs.Machine.{decode, targetsExist, ifEqual, ifLess};
+ghost use Rattle.model.specs.Reading.{typed, rowFits, notZero, below, notBelow};
+ghost use Rattle.model.specs.Check.{readEdges};
+ghost use Rattle.fits.specs.Numbers.{valuesOf};
+ghost use Rattle.straight.specs.State.{reading, numbered};
+ghost use Rattle.branch.specs.End.{endOf, lastAsk};
+use straight::NO_BASE;
+
+// Numbers of the questions asked of code.
+const OPEN_RECORD: u32 = 13;
+
+const TAKEN: u32 = 14;
+
+const UNTAKEN: u32 = 15;
+
+// Opcodes.
+const HALT: u32 = 0;
+
+const IF_EQUAL: u32 = 11;
+
+const IF_LESS: u32 = 12;
+
+// Kinds of type words, and the weight of a kind in its word.
+const REF: u32 = 1;
+
+const MAYBE: u32 = 2;
+
+const TAGGED: u32 = 3;
+
+const PRESENT: u32 = 4;
+
+const RUN: u32 = 6;
+
+const FROM: u32 = 7;
+
+const IN: u32 = 8;
+
+const KIND: u32 = 16777216;
+
+// ---- what an edge tells
+
+// The type word of v past an untaken opcode 11 with the constant k: past 0, Maybe is Ref and Tagged is Present.
+fn not_zero(words: &[u32; 256], v: u8, k: u32) -> u32
+    ensures { λ r. ⌜ ((frames constants : List ℕ)
+        → valuesOf (set (now (words .entry)) v r) frames constants 0 0
+        ≡ pick (eqb k 0) (notZero (valuesOf (now (words .entry)) frames constants 0 0) v (typed (valuesOf (now (words .entry)) frames constants 0 0) v))
+        (valuesOf (now (words .entry)) frames constants 0 0)) ⌝ }
+{
+    let w = words[v as usize];
+    if k != 0 {
+        return w;
+    }
+    let kind = word::kind(w);
+    if kind == MAYBE {
+        return REF * KIND + w % KIND;
+    }
+    if kind == TAGGED {
+        return PRESENT * KIND + w % KIND;
+    }
+    w
+}
+
+// The type word of v past a taken opcode 12: From with u known equal to its end is In.
+fn below(words: &[u32; 256], frames: &[u8; 32], constants: &[u32; 32], v: u8, u: u32) -> u32
+    requires { ⌜ u < 256 ⌝ }
+    ensures { λ r. ⌜ valuesOf (set (now (words .entry)) v r) (now (frames .entry)) (now (constants .entry)) 0 0 ≡ below (valuesOf (now (words .entry)) (now (frames .entry)) (now (constants .entry)) 0 0) v u (typed (valuesOf (now (words .entry)) (now (frames .entry)) (now (constants .entry)) 0 0) v) ⌝ }
+{
+    let w = words[v as usize];
+    if word::kind(w) != FROM {
+        return w;
+    }
+    let e = fits::sibling(fits::frame(frames, v as u32), word::second_dependency(w));
+    if !fits::known_equal(words, frames, constants, 0, 0, u, e) {
+        return w;
+    }
+    IN * KIND + w % KIND
+}
+
+// The type word of v past an untaken opcode 12: Run with u known equal to its start is From.
+fn not_below(words: &[u32; 256], frames: &[u8; 32], constants: &[u32; 32], v: u8, u: u32) -> u32
+    requires { ⌜ u < 256 ⌝ }
+    ensures { λ r. ⌜ valuesOf (set (now (words .entry)) v r) (now (frames .entry)) (now (constants .entry)) 0 0 ≡ notBelow (valuesOf (now (words .entry)) (now (frames .entry)) (now (constants .entry)) 0 0) v u (typed (valuesOf (now (words .entry)) (now (frames .entry)) (now (constants .entry)) 0 0) v) ⌝ }
+{
+    let w = words[v as usize];
+    if word::kind(w) != RUN {
+        return w;
+    }
+    let d = fits::sibling(fits::frame(frames, v as u32), word::first_dependency(w));
+    if !fits::known_equal(words, frames, constants, 0, 0, u, d) {
+        return w;
+    }
+    FROM * KIND + w % KIND
+}
+
+// ---- edges
+
+// Whether the registers meet the annotation of block t.
+fn edge(
+    tags: &[u32],
+    blocks: &[u32],
+    registers: &[u8; 8],
+    words: &[u32; 256],
+    frames: &[u8; 32],
+    constants: &[u32; 32],
+    tested: u32,
+    equal: u32,
+    t: usize,
+) -> bool
+    requires { ⌜ t * 9 + 9 ≤ length (now blocks) ⌝ }
+    ensures { λ r. ⌜ ((types : List ℕ)
+        → r ≡ rowFits (tablesOf types (now (tags .entry))) (valuesOf (now (words .entry)) (now (frames .entry)) (now (constants .entry)) tested equal)
+        8 (wordsOf (now (blocks .entry)) t) (now (registers .entry))) ⌝ }
+{
+    let own = table::row(blocks, t);
+    fits::row_fits(
+        tags,
+        words,
+        frames,
+        constants,
+        tested,
+        equal,
+        8,
+        &own[1..],
+        registers,
+    )
+}
+
+// Q14 and Q15 of opcode 11 on register a with the constant k, to block t or to the next. The block ends here, so its type words
+// need not be put back.
+fn equal_edges(
+    tags: &[u32],
+    blocks: &[u32],
+    registers: &[u8; 8],
+    words: &mut [u32; 256],
+    frames: &[u8; 32],
+    constants: &[u32; 32],
+    a: usize,
+    k: u32,
+    t: usize,
+    next: usize,
+) -> u32
+    requires { ⌜ (a < 8) × (k < 256) × (t * 9 + 9 ≤ length (now blocks)) × (next * 9 + 9 ≤ length (now blocks)) ⌝ }
+    ensures { λ r. ⌜ ((place : Question → Refusal) (types code views fields : List ℕ) (since base : ℕ)
+        → numbered place r tt ≡ readEdges (tablesOf types (now (tags .entry))) (routineOf (now (blocks .entry)) code) place next (ifEqual a k t)
+        (reading (now (registers .entry)) (now (words .entry)) (now (frames .entry)) (now (constants .entry)) views fields since base))
+        × (r ≤ 15) ⌝ }
+{
+    let v = registers[a];
+    if !edge(
+        tags,
+        blocks,
+        registers,
+        words,
+        frames,
+        constants,
+        fits::wide(v),
+        k + 1,
+        t,
+    ) {
+        return TAKEN;
+    }
+    let w = not_zero(words, v, k);
+    words[fits::index(v)] = w;
+    if !edge(
+        tags,
+        blocks,
+        registers,
+        words,
+        frames,
+        constants,
+        0,
+        0,
+        next,
+    ) {
+        return UNTAKEN;
+    }
+    0
+}
+
+// Q14 and Q15 of opcode 12 on registers a and b, to block t or to the next.
+fn less_edges(
+    tags: &[u32],
+    blocks: &[u32],
+    registers: &[u8; 8],
+    words: &mut [u32; 256],
+    frames: &[u8; 32],
+    constants: &[u32; 32],
+    a: usize,
+    b: usize,
+    t: usize,
+    next: usize,
+) -> u32
+    requires { ⌜ (a < 8) × (b < 8) × (t * 9 + 9 ≤ length (now blocks)) × (next * 9 + 9 ≤ length (now blocks)) ⌝ }
+    ensures { λ r. ⌜ ((place : Question → Refusal) (types code views fields : List ℕ) (since base : ℕ)
+        → numbered place r tt ≡ readEdges (tablesOf types (now (tags .entry))) (routineOf (now (blocks .entry)) code) place next (ifLess a b t)
+        (reading (now (registers .entry)) (now (words .entry)) (now (frames .entry)) (now (constants .entry)) views fields since base))
+        × (r ≤ 15) ⌝ }
+{
+    let v = registers[a];
+    let u = fits::wide(registers[b]);
+    let taken = below(words, frames, constants, v, u);
+    let untaken = not_below(words, frames, constants, v, u);
+    let i = fits::index(v);
+    words[i] = taken;
+    if !edge(tags, blocks, registers, words, frames, constants, 0, 0, t) {
+        return TAKEN;
+    }
+    words[i] = untaken;
+    if !edge(
+        tags,
+        blocks,
+        registers,
+        words,
+        frames,
+        constants,
+        0,
+        0,
+        next,
+    ) {
+        return UNTAKEN;
+    }
+    0
+}
+
+// Q14 and Q15 of the last instruction of block b.
+fn edges(
+    tags: &[u32],
+    blocks: &[u32],
+    registers: &[u8; 8],
+    words: &mut [u32; 256],
+    frames: &[u8; 32],
+    constants: &[u32; 32],
+    word: u32,
+    b: usize,
+) -> u32
+    requires { ⌜ (aOf word < 8) × (bOf word < 8) × (opcodeOf word ≤ 12) × (0 < opcodeOf word → 9 < opcodeOf word) × (b < 256)
+        × (targetsExist (rows (now blocks)) b (endOf word) ≡ true) ⌝ }
+    ensures { λ r. ⌜ ((place : Question → Refusal) (types code views fields : List ℕ) (since base : ℕ)
+        → numbered place r tt ≡ readEdges (tablesOf types (now (tags .entry))) (routineOf (now (blocks .entry)) code) place (suc b) (endOf word)
+        (reading (now (registers .entry)) (now (words .entry)) (now (frames .entry)) (now (constants .entry)) views fields since base))
+        × (r ≤ 15) ⌝ }
+{
+    let op = word::opcode(word);
+    if op == HALT {
+        return 0;
+    }
+    let a = word::a(word);
+    let c = word::c(word);
+    if op == IF_EQUAL {
+        return equal_edges(
+            tags,
+            blocks,
+            registers,
+            words,
+            frames,
+            constants,
+            a,
+            c / 256,
+            (c % 256) as usize,
+            b + 1,
+        );
+    }
+    if op == IF_LESS {
+        return less_edges(
+            tags,
+            blocks,
+            registers,
+            words,
+            frames,
+            constants,
+            a,
+            word::b(word),
+            c as usize,
+            b + 1,
+        );
+    }
+    if !edge(
+        tags,
+        blocks,
+        registers,
+        words,
+        frames,
+        constants,
+        0,
+        0,
+        c as usize,
+    ) {
+        return TAKEN;
+    }
+    0
+}
+
+// Q7 to Q9 and Q13 to Q15 of the last instruction of block b.
+pub fn last(
+    tags: &[u32],
+    blocks: &[u32],
+    registers: &[u8; 8],
+    words: &mut [u32; 256],
+    frames: &[u8; 32],
+    constants: &[u32; 32],
+    base: u32,
+    word: u32,
+    b: usize,
+) -> u32
+    requires { ⌜ (b < 256) × (length (now blocks) ≤ 2304) ⌝ }
+    ensures { λ r. ⌜ ((place : Question → Refusal) (types code views fields : List ℕ) (since : ℕ)
+        → numbered place r tt ≡ lastAsk (tablesOf types (now (tags .entry))) (routineOf (now (blocks .entry)) code) place b (decode word)
+        (reading (now (registers .entry)) (now (words .entry)) (now (frames .entry)) (now (constants .entry)) views fields since base))
+        × (r ≤ 15) ⌝ }
+{
+    let count = (blocks.len() / 9) as u32;
+    let no = instruction::form(word, true, b as u32, count);
+    if no != 0 {
+        return no;
+    }
+    if base < NO_BASE {
+        return OPEN_RECORD;
+    }
+    edges(tags, blocks, registers, words, frames, constants, word, b)
+}

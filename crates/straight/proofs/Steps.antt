@@ -1,0 +1,275 @@
+-- Laws of one instruction before a block's end: names and type words, opcode 7, loads and stores.
+use mathlib.Core.Path.{_≡_, refl, sym, ap, _∙_}
+use mathlib.Core.Bool.{Bool, true, false, not}
+use mathlib.Core.List.{List, [], _∷_, map}
+use Prim.Native.Nat.{ℕ, zero, suc, _+_, _-_, _*_, _/_, _%_, _^_, _<_, _≤_}
+use native.Mathlib.Numerals.{add-one}
+use native.Mathlib.Omega.{arith}
+use lib.Dec.{ltb, leb, eqb}
+use lib.ListN.{length, getD, set, take, drop, drop-of-length-le, length-drop}
+use lib.Seq.{drop-cons, take-all}
+use borrow.Author.Tests.{lt-ltb, le-ltb, le-leb, lt-leb, eq-eqb, ne-eqb}
+use Rattle.model.specs.declared.Reference.{Reference}
+use Rattle.model.specs.declared.Reference.the-variants.{To, Nothing}
+use Rattle.model.specs.Question.{_and_, _or_, pick, Question, q10, q11, q12, Refusal, Outcome, ok, refused, ask}
+use Rattle.model.specs.Word.{kindOf, recordOf, opcodeOf, aOf, bOf, cOf}
+use Rattle.model.specs.Types.{typeOf, rename}
+use Rattle.model.specs.Table.{Tables, tablesOf, headOf, wordsOf, rowOf}
+use Rattle.model.specs.Machine.{Plain, constant, copy, add, subtract, multiply, divide, move, load, store}
+use Rattle.model.specs.Reading.{Values, birthplace, typed, referenceOf, rowFits, Reading, laidAt, zeros, upFrom, born, putRegister, fresh, withKind, steady, moves, movedWord, noBase, isOpen, seen, viewed, viewedBefore, look, loaded, stored}
+use Rattle.model.specs.Check.{valueIn, withReference, referenceIn, mayTouch, onRecord, readPlain}
+use Rattle.model.proofs.Logic.{byTest, byEqual, byLess}
+use Rattle.model.proofs.Lists.{map-set, getD-past, upFrom-at, length-upFrom}
+use Rattle.table.proofs.Laws.{row-length, words-length, head-at, tables-size, tables-words}
+use Rattle.fits.specs.Numbers.{frameOf, framesOf, valuesOf}
+use Rattle.fits.proofs.Numbers.{frames-at, frames-set, byKind, type-any, type-ref, type-maybe, type-tagged, type-present, type-same, type-span}
+use Rattle.straight.specs.State.{viewOf, viewsOf, reading, questionOf, numbered, plainOf, touched}
+
+-- ---- names and type words
+
+pub laid-on : (l : List ℕ) (j j′ : ℕ) (xs : List ℕ) (k x : ℕ) → k < length xs → j′ ≡ j + 1 → x ≡ getD xs k 0
+    → laidAt l j (drop k xs) ≡ laidAt (set l j x) j′ (drop (k + 1) xs)
+unfolding laidAt
+laid-on l j j′ xs k x h e ex = let z : j′ ≡ suc j = omega arith in rw (z, ex, drop-cons xs k 0 h, add-one k)
+
+pub laid-end : (l : List ℕ) (j : ℕ) (xs : List ℕ) (k : ℕ) → length xs ≤ k → laidAt l j (drop k xs) ≡ l
+unfolding laidAt
+laid-end l j xs k h = rw (drop-of-length-le xs h)
+
+pub laid-start : (l : List ℕ) (j j′ : ℕ) (xs : List ℕ) → j′ ≡ j → laidAt l j xs ≡ laidAt l j′ (drop 0 xs)
+laid-start l j j′ xs e = rw e
+
+laid-behind : (y : ℕ) (l : List ℕ) (i : ℕ) (xs : List ℕ) → laidAt (y ∷ l) (suc i) xs ≡ y ∷ laidAt l i xs
+unfolding laidAt
+laid-behind y l i [] = refl
+laid-behind y l i (x ∷ xs) = laid-behind y (set l i x) (suc i) xs
+
+-- a list as long as what is laid over it is gone
+laid-whole : (l xs : List ℕ) → length l ≡ length xs → laidAt l 0 xs ≡ xs
+unfolding laidAt
+laid-whole [] [] e = refl
+laid-whole (y ∷ l) [] e = absurd (omega arith)
+laid-whole [] (x ∷ xs) e = absurd (omega arith)
+laid-whole (y ∷ l) (x ∷ xs) e = laid-behind x l 0 xs ∙ ap {B = List ℕ} (λ (r : List ℕ). x ∷ r) (laid-whole l xs (omega arith))
+
+pub names-all : (l : List ℕ) (first : ℕ) → length l ≡ 8 → laidAt l 0 (upFrom first 8) ≡ upFrom first 8
+names-all l first e = laid-whole l (upFrom first 8) (e ∙ sym (length-upFrom first 8))
+
+pub name-at : (first k : ℕ) → k < 8 → first + k ≡ getD (upFrom first 8) k 0
+name-at first k h = sym (upFrom-at first 8 k h)
+
+-- ---- sizes
+
+pub size-past : (types : List ℕ) (t : ℕ) → length types ≤ t * 9 → 0 ≡ headOf types t
+size-past types t h = sym (head-at types t ∙ getD-past types (t * 9) 0 h)
+
+pub size-at : (types : List ℕ) (t : ℕ) → getD types (t * 9) 0 ≡ headOf types t
+size-at types t = sym (head-at types t)
+
+-- the type words of a row, as a part of it
+pub part-is : (types own : List ℕ) (t : ℕ) → own ≡ rowOf types t → take (length own - 1) (drop 1 own) ≡ wordsOf types t
+part-is types own t e = rw e (take-all (length (rowOf types t) - 1) (drop 1 (rowOf types t)) (omega (arith, length-drop 1 (rowOf types t))))
+
+pub part-length : (types own : List ℕ) (t : ℕ) → t * 9 + 9 ≤ length types → own ≡ rowOf types t → length (take (length own - 1) (drop 1 own)) ≡ 8
+part-length types own t h e = ap length (part-is types own t e) ∙ words-length types t h
+
+pub row-words : (types own : List ℕ) (t : ℕ) → t * 9 + 9 ≤ length types → own ≡ rowOf types t → length own ≡ 9
+row-words types own t h e = ap length e ∙ row-length types t h
+
+-- ---- new values
+
+module _ (registers words frames constants views fields : List ℕ) (since base : ℕ) (a g w f k : ℕ)
+    (registers′ words′ frames′ constants′ : List ℕ)
+    (er : registers′ ≡ set registers a (8 * g)) (ew : words′ ≡ set words (8 * g) w) (ef : frames′ ≡ set frames g f) (ec : constants′ ≡ set constants g k) where
+  pub fresh-is : reading registers′ words′ frames′ constants′ views fields since base
+      ≡ fresh (reading registers words frames constants views fields since base) g a w (frameOf f) k
+  unfolding fresh born laidAt
+  fresh-is = rw (er, ew, ef, ec, frames-set frames g f)
+
+-- ---- opcode 7
+
+module _ (n c : ℕ) where
+  pub divides-one : n ≡ 1 → true ≡ steady n and eqb (c % n) 0
+  unfolding _and_ _or_
+  divides-one e = let z : c % 1 ≡ 0 = omega arith in rw (e, z)
+
+  pub divides-two : n ≡ 2 → eqb (c % 2) 0 ≡ steady n and eqb (c % n) 0
+  unfolding _and_ _or_
+  divides-two e = rw e
+
+  pub divides-four : n ≡ 4 → eqb (c % 4) 0 ≡ steady n and eqb (c % n) 0
+  unfolding _and_ _or_
+  divides-four e = rw e
+
+  pub divides-eight : n ≡ 8 → eqb (c % 8) 0 ≡ steady n and eqb (c % n) 0
+  unfolding _and_ _or_
+  divides-eight e = rw e
+
+  pub divides-other : (n ≡ 1 → ⊥) → (n ≡ 2 → ⊥) → (n ≡ 4 → ⊥) → (n ≡ 8 → ⊥) → false ≡ steady n and eqb (c % n) 0
+  unfolding _and_ _or_
+  divides-other n1 n2 n4 n8 = rw (ne-eqb n 1 n1, ne-eqb n 2 n2, ne-eqb n 4 n4, ne-eqb n 8 n8)
+
+module _ (types tags : List ℕ) (w c : ℕ) where
+  type-is-span : (k : ℕ) → kindOf w ≡ k + 6 → moves (tablesOf types tags) (typeOf w) c ≡ steady (headOf types (recordOf w)) and eqb (c % headOf types (recordOf w)) 0
+  unfolding moves typeOf tablesOf
+  type-is-span k e = let z : kindOf w ≡ suc (suc (suc (suc (suc (suc k))))) = omega arith in rw z
+
+  pub moved-other : kindOf w < 6 → 0 ≡ movedWord (tablesOf types tags) w c
+  unfolding movedWord moves typeOf
+  moved-other h =
+      byKind (kindOf w) (λ e. rw e) (λ e. rw e) (λ e. rw e) (λ e. rw e) (λ e. rw e) (λ e. rw e) (λ k e. absurd (omega arith))
+
+  module _ (h : 6 ≤ kindOf w) (t n : ℕ) (et : t ≡ recordOf w) (en : n ≡ headOf types t) where
+    spans : moves (tablesOf types tags) (typeOf w) c ≡ steady n and eqb (c % n) 0
+    spans = type-is-span (kindOf w - 6) (omega arith) ∙ rw (en, et)
+
+    pub moved-not : steady n and eqb (c % n) 0 ≡ false → 0 ≡ movedWord (tablesOf types tags) w c
+    unfolding movedWord
+    moved-not q = rw (spans, q)
+
+    pub moved-on : steady n and eqb (c % n) 0 ≡ true → 100663296 + w % 16777216 ≡ movedWord (tablesOf types tags) w c
+    unfolding movedWord
+    moved-on q = rw (spans, q)
+
+-- ---- looks
+
+views-at : (l : List ℕ) (v : ℕ) → viewOf (getD l v 0) ≡ getD (viewsOf l) v 0
+unfolding viewsOf
+views-at [] v = refl
+views-at (x ∷ l) zero = refl
+views-at (x ∷ l) (suc v) = views-at l v
+
+views-set : (l : List ℕ) (v x : ℕ) → viewsOf (set l v x) ≡ set (viewsOf l) v (viewOf x)
+unfolding viewsOf
+views-set l v x = map-set viewOf l v x
+
+module _ (types tags registers words frames constants views fields : List ℕ) (since base g v t : ℕ) where
+  abbrev now₀ : Reading
+  now₀ = reading registers words frames constants views fields since base
+
+  pub look-open : base < 256 → now₀ ≡ look (tablesOf types tags) now₀ g v t
+  unfolding look
+  look-open h = rw (lt-ltb base 256 h)
+
+  module _ (h : 256 ≤ base) (x : ℕ) (ex : x ≡ getD views v 0) where
+    sees : x % 32 ≡ getD (viewsOf views) v 0
+    sees = rw ex (views-at views v)
+
+    pub look-seen : since < x % 32 → (fields′ : List ℕ) → fields′ ≡ upFrom (8 * (x % 32)) 8
+        → reading registers words frames constants views fields′ since base ≡ look (tablesOf types tags) now₀ g v t
+    unfolding look
+    look-seen l fields′ ef = rw (le-ltb base 256 h, ← sees, lt-ltb since (x % 32) l, ef)
+
+    pub look-born : x % 32 ≤ since → g < 32 → (row words′ fields′ : List ℕ) → row ≡ wordsOf types t → words′ ≡ laidAt words (8 * g) row → fields′ ≡ upFrom (8 * g) 8
+        → reading registers words′ (set frames g g) (set constants g 0) (set views v g) fields′ since base ≡ look (tablesOf types tags) now₀ g v t
+    unfolding look viewed born tablesOf
+    look-born l s row words′ fields′ er ew ef =
+        let z : g % 32 ≡ g = omega arith in
+        rw (le-ltb base 256 h, ← sees, le-ltb since (x % 32) l, ew, er, ef, frames-set frames g g, views-set views v g, z)
+
+-- ---- Q12
+
+module _ (base v : ℕ) where
+  pub touch-free : 256 ≤ base → true ≡ not (ltb base noBase) or eqb base v
+  unfolding _or_
+  touch-free h = rw (le-ltb base 256 h)
+
+  pub touch-own : base < 256 → eqb base v ≡ not (ltb base noBase) or eqb base v
+  unfolding _or_
+  touch-own h = rw (lt-ltb base 256 h)
+
+-- ---- loads and stores
+
+module _ (w a b c : ℕ) (ea : a ≡ aOf w) (eb : b ≡ bOf w) (ec : c ≡ cOf w) where
+  pub plain-constant : opcodeOf w ≡ 1 → plainOf w ≡ constant a c
+  unfolding plainOf
+  plain-constant e = rw (e, ← ea, ← ec)
+
+  pub plain-copy : opcodeOf w ≡ 2 → plainOf w ≡ copy a b
+  unfolding plainOf
+  plain-copy e = rw (e, ← ea, ← eb)
+
+  pub plain-move : opcodeOf w ≡ 7 → plainOf w ≡ move a b c
+  unfolding plainOf
+  plain-move e = rw (e, ← ea, ← eb, ← ec)
+
+  pub plain-load : opcodeOf w ≡ 8 → plainOf w ≡ load a b c
+  unfolding plainOf
+  plain-load e = rw (e, ← ea, ← eb, ← ec)
+
+  pub plain-store : opcodeOf w ≡ 9 → plainOf w ≡ store a b c
+  unfolding plainOf
+  plain-store e = rw (e, ← ea, ← eb, ← ec)
+
+module _ (types tags registers words frames constants views fields : List ℕ) (since base g v t c x n : ℕ) (row : List ℕ) (f : Bool)
+    (en : n ≡ headOf types t) (er : row ≡ wordsOf types t)
+    (ef : f ≡ rowFits (tablesOf types tags) (valuesOf words frames constants 0 0) n row (set fields c x)) where
+  abbrev past : Reading
+  past = stored (tablesOf types tags) (reading registers words frames constants views fields since base) g v t c x
+
+  pub store-closes : f ≡ true → reading registers words frames constants views (set fields c x) g 256 ≡ past
+  unfolding stored
+  store-closes q = rw (tables-size types tags t, tables-words types tags t, ← en, ← er, ← ef, q)
+
+  pub store-holds : f ≡ false → reading registers words frames constants views (set fields c x) since v ≡ past
+  unfolding stored
+  store-holds q = rw (tables-size types tags t, tables-words types tags t, ← en, ← er, ← ef, q)
+
+module _ (𝒯 : Tables) (place : Question → Refusal) (g : ℕ) (loads : Bool) (a v t c : ℕ) (st : Reading) (n : ℕ) (en : n ≡ 𝒯 .size t) where
+  pub touch-offset : n ≤ c → (z : ℕ) → z ≡ 11 → (st′ : Reading) → numbered place z st′ ≡ touched 𝒯 place g loads a v t c st
+  unfolding numbered questionOf touched ask
+  touch-offset q z ez st′ = rw (ez, ← en, le-ltb c n q)
+
+  module _ (q : c < n) where
+    pub touch-other : mayTouch 𝒯 st v ≡ false → (z : ℕ) → z ≡ 12 → (st′ : Reading) → numbered place z st′ ≡ touched 𝒯 place g loads a v t c st
+    unfolding numbered questionOf touched ask
+    touch-other m z ez st′ = rw (ez, ← en, lt-ltb c n q, m)
+
+    module _ (m : mayTouch 𝒯 st v ≡ true) (z : ℕ) (ez : z ≡ 0) (st′ : Reading) (es : st′ ≡ look 𝒯 st g v t) where
+      pub touch-load : loads ≡ true → numbered place z (putRegister st′ a (getD (st′ .fields) c 0)) ≡ touched 𝒯 place g loads a v t c st
+      unfolding numbered touched ask loaded
+      touch-load e = rw (ez, ← en, lt-ltb c n q, m, e, ← es)
+
+      pub touch-store : loads ≡ false → (st″ : Reading) → st″ ≡ stored 𝒯 st′ g v t c (valueIn st a) → numbered place z st″ ≡ touched 𝒯 place g loads a v t c st
+      unfolding numbered touched ask
+      touch-store e st″ e″ = rw (ez, ← en, lt-ltb c n q, m, e, ← es, e″)
+
+module _ (𝒯 : Tables) (place : Question → Refusal) (g w : ℕ) (st : Reading) (a b c : ℕ) (ea : a ≡ aOf w) (eb : b ≡ bOf w) (ec : c ≡ cOf w)
+    (l : 8 ≤ opcodeOf w) (h : opcodeOf w ≤ 9) where
+  pub access-nothing : Nothing ≡ referenceIn 𝒯 st b → (z : ℕ) → z ≡ 10 → (st′ : Reading) → numbered place z st′ ≡ readPlain 𝒯 place g (plainOf w) st
+  unfolding numbered questionOf readPlain onRecord withReference
+  access-nothing er z ez st′ =
+      byEqual (opcodeOf w) 8 (λ e. rw (ez, plain-load w a b c ea eb ec e, ← er))
+      (λ n. rw (ez, plain-store w a b c ea eb ec (omega arith), ← er))
+
+  pub access-on : (t : ℕ) → To t ≡ referenceIn 𝒯 st b → (p : ℕ) → p ≡ opcodeOf w
+      → touched 𝒯 place g (eqb p 8) a (valueIn st b) t c st ≡ readPlain 𝒯 place g (plainOf w) st
+  unfolding readPlain onRecord withReference touched
+  access-on t er p ep =
+      byEqual p 8 (λ e. rw (plain-load w a b c ea eb ec (sym ep ∙ e), ← er, eq-eqb p 8 e))
+      (λ n. rw (plain-store w a b c ea eb ec (omega arith), ← er, ne-eqb p 8 n))
+
+-- ---- the other instructions
+
+module _ (𝒯 : Tables) (place : Question → Refusal) (g w : ℕ) (st : Reading) (a b c : ℕ) (z : ℕ) (ez : z ≡ 0) where
+  pub step-copy : plainOf w ≡ copy a b → numbered place z (putRegister st a (valueIn st b)) ≡ readPlain 𝒯 place g (plainOf w) st
+  unfolding numbered readPlain
+  step-copy e = rw (ez, e)
+
+  module _ (st′ : Reading) where
+    pub step-constant : plainOf w ≡ constant a c → st′ ≡ fresh st g a 0 0 (c + 1) → numbered place z st′ ≡ readPlain 𝒯 place g (plainOf w) st
+    unfolding numbered readPlain
+    step-constant e es = rw (ez, e, es, add-one c)
+
+    pub step-move : plainOf w ≡ move a b c → (v m f : ℕ) → v ≡ valueIn st b → m ≡ movedWord 𝒯 (getD (st .values .words) v 0) c
+        → f ≡ getD (st .values .frames) (birthplace v) 0 → st′ ≡ fresh st g a m f 0 → numbered place z st′ ≡ readPlain 𝒯 place g (plainOf w) st
+    unfolding numbered readPlain
+    step-move e v m f ev em ef es = rw (ez, e, ← ev, ← em, ← ef, es)
+
+    pub step-arithmetic : 2 < opcodeOf w → opcodeOf w < 7 → a ≡ aOf w → st′ ≡ fresh st g a 0 0 0 → numbered place z st′ ≡ readPlain 𝒯 place g (plainOf w) st
+    unfolding numbered readPlain plainOf
+    step-arithmetic l h ea es =
+        byLess (opcodeOf w) 4 (λ k. let o : opcodeOf w ≡ 3 = omega arith in rw (ez, es, o, ea))
+        (λ g4. byLess (opcodeOf w) 5 (λ k. let o : opcodeOf w ≡ 4 = omega arith in rw (ez, es, o, ea))
+        (λ g5. byLess (opcodeOf w) 6 (λ k. let o : opcodeOf w ≡ 5 = omega arith in rw (ez, es, o, ea))
+        (λ g6. let o : opcodeOf w ≡ 6 = omega arith in rw (ez, es, o, ea))))

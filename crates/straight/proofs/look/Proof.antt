@@ -1,0 +1,110 @@
+-- `straight::look` meets its contract.
+use native.Mathlib.Omega.{arith}
+use borrow.Author.Needs.{needs}
+use Rattle.straight.proofs.Steps.{look-open, look-seen, look-born, part-is, part-length, row-words}
+use Rattle.straight.proofs.look.Statement.{statement}
+use Rattle.straight.proofs.look.Tie as tie
+
+returns : tie.Need-returns
+returns c = λ registers tags. look-open _ _ _ _ _ _ _ _ _ _ _ _ _ (omega arith)
+
+element-copy-out-wide : tie.Need-element-copy-out-wide
+element-copy-out-wide c = search needs
+
+wide-requires : tie.Need-wide-requires
+wide-requires c κs = search needs
+
+mul-name-all : tie.Need-mul-name-all
+mul-name-all c = search needs
+
+name-all-requires : tie.Need-name-all-requires
+name-all-requires c κs = search needs
+
+returns-2 : tie.Need-returns-2
+returns-2 c =
+    λ registers tags. look-seen _ _ _ _ _ _ _ _ _ _ _ _ _ (omega arith) _ (c .before .before .before .wide .ensures .0) (omega arith) _
+    (c .name-all .ensures)
+
+row-requires : tie.Need-row-requires
+row-requires c κs = search needs
+
+sub-lay : tie.Need-sub-lay
+sub-lay c =
+    let z = row-words _ _ _ (omega arith) (c .before .row .ensures) in
+    omega arith
+
+part-lay-start : tie.Need-part-lay-start
+part-lay-start c =
+    let z = row-words _ _ _ (omega arith) (c .before .row .ensures) in
+    omega arith
+
+part-lay-end : tie.Need-part-lay-end
+part-lay-end c = search needs
+
+mul-lay : tie.Need-mul-lay
+mul-lay c = search needs
+
+lay-requires : tie.Need-lay-requires
+lay-requires c κs =
+    let z = part-length _ _ _ (omega arith) (c .before .before .row .ensures) in
+    omega arith
+
+cast-frames : tie.Need-cast-frames
+cast-frames c = search needs
+
+element-write-frames : tie.Need-element-write-frames
+element-write-frames c = search needs
+
+mul-constants : tie.Need-mul-constants
+mul-constants c = search needs
+
+element-write-constants : tie.Need-element-write-constants
+element-write-constants c = search needs
+
+cast-views : tie.Need-cast-views
+cast-views c = search needs
+
+element-write-views : tie.Need-element-write-views
+element-write-views c = search needs
+
+cast-name-all : tie.Need-cast-name-all
+cast-name-all c = search needs
+
+mul-name-all-2 : tie.Need-mul-name-all-2
+mul-name-all-2 c = search needs
+
+name-all-requires-2 : tie.Need-name-all-requires-2
+name-all-requires-2 c κs = search needs
+
+returns-3 : tie.Need-returns-3
+returns-3 c =
+    λ registers tags. look-born _ _ _ _ _ _ _ _ _ _ _ _ _ (omega arith) _
+    (c .before .before .before .before .before .before .before .wide .ensures .0) (omega arith) (omega arith) _ _ _ (part-is _ _ _
+    (c .before .before .before .before .before .row .ensures)) (c .before .before .lay .ensures) (c .name-all2 .ensures)
+
+pub look-spec : {M : Type 1} → statement M
+look-spec =
+    tie.close
+    (tie.spec
+    returns
+    element-copy-out-wide
+    wide-requires
+    mul-name-all
+    name-all-requires
+    returns-2
+    row-requires
+    sub-lay
+    part-lay-start
+    part-lay-end
+    mul-lay
+    lay-requires
+    cast-frames
+    element-write-frames
+    mul-constants
+    element-write-constants
+    cast-views
+    element-write-views
+    cast-name-all
+    mul-name-all-2
+    name-all-requires-2
+    returns-3)

@@ -1,0 +1,52 @@
+-- `straight::moved_word` meets its contract.
+use native.Mathlib.Omega.{arith}
+use borrow.Author.Needs.{needs}
+use Rattle.model.proofs.Logic.{told-no, told-yes}
+use Rattle.straight.proofs.Steps.{moved-other, moved-not, moved-on}
+use Rattle.straight.proofs.moved_word.Statement.{statement}
+use Rattle.straight.proofs.moved_word.Tie as tie
+
+kind-requires : tie.Need-kind-requires
+kind-requires c κs = search needs
+
+returns : tie.Need-returns
+returns c = λ tags. moved-other _ _ _ _ (omega arith)
+
+record-type-requires : tie.Need-record-type-requires
+record-type-requires c κs = search needs
+
+size-requires : tie.Need-size-requires
+size-requires c κs = search needs
+
+divides-requires : tie.Need-divides-requires
+divides-requires c κs = search needs
+
+returns-2 : tie.Need-returns-2
+returns-2 c =
+    λ tags. moved-not _ _ _ _ (omega arith) _ _ (c .before .before .before .record-type .ensures .0) (c .before .before .size .ensures .0)
+    (told-no (c .before .divides .ensures) (c .if2 .taken))
+
+mul-result : tie.Need-mul-result
+mul-result c = search needs
+
+add-result : tie.Need-add-result
+add-result c = search needs
+
+returns-3 : tie.Need-returns-3
+returns-3 c =
+    λ tags. moved-on _ _ _ _ (omega arith) _ _ (c .before .before .before .record-type .ensures .0) (c .before .before .size .ensures .0)
+    (told-yes (c .before .divides .ensures) (c .if2 .left))
+
+pub moved-word-spec : {M : Type 1} → statement M
+moved-word-spec =
+    tie.close
+    (tie.spec
+    kind-requires
+    returns
+    record-type-requires
+    size-requires
+    divides-requires
+    returns-2
+    mul-result
+    add-result
+    returns-3)

@@ -1,0 +1,67 @@
+-- The state of a reading as the arrays of the code hold it, outcomes as numbers, and the instruction that a well-formed word is.
+use mathlib.Core.List.{List, [], _∷_, map}
+use Prim.Native.Nat.{ℕ, zero, suc, _-_, _%_}
+use mathlib.Core.Bool.{Bool}
+use lib.Dec.{ltb}
+use lib.ListN.{getD}
+use Rattle.model.specs.Question.{pick, Question, q1, q2, q3, q4, q5, q6, q7, q8, q9, q10, q11, q12, q13, q14, q15, Refusal, Outcome, ok, refused, ask}
+use Rattle.model.specs.Word.{opcodeOf, aOf, bOf, cOf}
+use Rattle.model.specs.Table.{Tables}
+use Rattle.model.specs.Machine.{Plain, constant, copy, add, subtract, multiply, divide, move, load, store, Instruction, plain, end, malformed}
+use Rattle.model.specs.Reading.{Reading, look, loaded, stored}
+use Rattle.model.specs.Check.{valueIn, mayTouch, readPlain}
+use Rattle.fits.specs.Numbers.{valuesOf}
+
+-- A view is the birthplace of the fields seen. There are 32 birthplaces.
+abbrev pub viewOf : ℕ → ℕ
+viewOf x = x % 32
+
+unfoldable pub viewsOf : List ℕ → List ℕ
+viewsOf l = map viewOf l
+
+abbrev pub reading : List ℕ → List ℕ → List ℕ → List ℕ → List ℕ → List ℕ → ℕ → ℕ → Reading
+reading registers words frames constants views fields since base =
+    record {
+      values = valuesOf words frames constants 0 0;
+      registers = registers;
+      views = viewsOf views;
+      since = since;
+      base = base;
+      fields = fields;
+    }
+
+-- ---- outcomes
+
+-- the questions by number, up to the last of the check
+unfoldable pub questionOf : ℕ → Question
+questionOf n = getD (q1 ∷ q2 ∷ q3 ∷ q4 ∷ q5 ∷ q6 ∷ q7 ∷ q8 ∷ q9 ∷ q10 ∷ q11 ∷ q12 ∷ q13 ∷ q14 ∷ q15 ∷ []) (n - 1) q15
+
+-- number 0 goes on with a result; any other is the question that had a no
+unfoldable pub numbered : {A : Type 0} → (Question → Refusal) → ℕ → A → Outcome A
+numbered place zero a = ok a
+numbered place (suc n) a = refused (place (questionOf (suc n)))
+
+-- ---- instructions
+
+-- a well-formed word with opcode 1 to 9
+unfoldable pub plainOf : ℕ → Plain
+plainOf w =
+    let a = aOf w in
+    let b = bOf w in
+    let c = cOf w in
+    getD
+    (constant a c ∷ copy a b ∷ add a b c ∷ subtract a b c ∷ multiply a b c ∷ divide a b c ∷ move a b c ∷ load a b c ∷ store a b c ∷ [])
+    (opcodeOf w - 1) (constant a c)
+
+-- Q7 to Q12 of an instruction before its block's end, whose values are born at g
+unfoldable pub earlyAsk : Tables → (Question → Refusal) → ℕ → Instruction → Reading → Outcome Reading
+earlyAsk 𝒯 place g malformed st = refused (place q7)
+earlyAsk 𝒯 place g (plain x) st = readPlain 𝒯 place g x st
+earlyAsk 𝒯 place g (end e) st = refused (place q8)
+
+-- Q11 and Q12 of an access to a record of type t through the value v, and the reading after it
+unfoldable pub touched : Tables → (Question → Refusal) → ℕ → Bool → ℕ → ℕ → ℕ → ℕ → Reading → Outcome Reading
+touched 𝒯 place g loads a v t c st =
+    ask (ltb c (𝒯 .size t)) (place q11) λ _.
+    ask (mayTouch 𝒯 st v) (place q12) λ _.
+    pick loads (ok (loaded (look 𝒯 st g v t) a c)) (ok (stored 𝒯 (look 𝒯 st g v t) g v t c (valueIn st a)))

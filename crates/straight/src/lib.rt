@@ -1,0 +1,479 @@
+// How a block is read up to its last instruction: Q7, Q8 and Q10 to Q12.
+//
+// A block's reading is held in local arrays of one function, lent to the others: the value in each register, the type word,
+// frame and constant of each value, the fields seen through each value, and the fields of the record at hand. Every contract
+// says that the arrays at exit are the definition's reading after it, made of those at entry.
+ghost use mathlib.Core.Path.{_≡_};
+ghost use mathlib.Core.List.{List};
+ghost use Prim.Native.Nat.{ℕ, _+_, _*_, _%_, _≤_, _<_};
+ghost use lib.ListN.{length, set};
+ghost use lib.Dec.{eqb, ltb};
+ghost use mathlib.Core.Bool.{not};
+ghost use Rattle.model.specs.Question.{_and_, _or_, Question, Refusal};
+ghost use Rattle.model.specs.Word.{opcodeOf, aOf, bOf};
+ghost use Rattle.model.specs.Table.{tablesOf, headOf};
+ghost use Rattle.model.specs.Machine.{decode};
+ghost use Rattle.model.specs.Reading.{laidAt, upFrom, steady, movedWord, look, stored};
+ghost use Rattle.model.specs.Check.{readPlain};
+ghost use Rattle.straight.specs.State.{reading, numbered, plainOf, touched, earlyAsk};
+use model::Reference;
+
+// Numbers of the questions asked of code.
+const NO_REFERENCE: u32 = 10;
+
+const OFFSET: u32 = 11;
+
+const OTHER_RECORD: u32 = 12;
+
+// Opcodes.
+const CONSTANT: u32 = 1;
+
+const COPY: u32 = 2;
+
+const MOVE: u32 = 7;
+
+const LOAD: u32 = 8;
+
+// The first kind of a span, and the weight of a kind in its type word.
+const RUN: u32 = 6;
+
+const KIND: u32 = 16777216;
+
+// No record is open.
+pub const NO_BASE: u32 = 256;
+
+// What is left of a reading beside the arrays: the number of a no, the birthplace of the last close, the base of the open record.
+pub struct Progress {
+    pub number: u32,
+    pub since: u32,
+    pub base: u32,
+}
+
+fn refused(number: u32, s: Progress) -> Progress
+    ensures { λ r. ⌜ r ≡ record { number = number; since = s .since; base = s .base } ⌝ }
+{
+    Progress {
+        number: number,
+        since: s.since,
+        base: s.base,
+    }
+}
+
+// ---- names and type words
+
+// A row of type words, from the name first on.
+pub fn lay(words: &mut [u32; 256], row: &[u32], first: usize)
+    requires { ⌜ first + length (now row) ≤ 256 ⌝ }
+    ensures { λ _. ⌜ now (words .exit) ≡ laidAt (now (words .entry)) first (now (row .entry)) ⌝ }
+{
+    let mut k = 0;
+    while k < row.len() {
+        words[first + k] = row[k];
+        k += 1;
+    }
+}
+
+// The names of eight fields, from first on.
+fn name_all(fields: &mut [u8; 8], first: u32)
+    requires { ⌜ (first ≤ 248) × (length (now fields) ≡ 8) ⌝ }
+    ensures { λ _. ⌜ now (fields .exit) ≡ upFrom first 8 ⌝ }
+{
+    let mut k: usize = 0;
+    while k < 8 {
+        fields[k] = (first + (k as u32)) as u8;
+        k += 1;
+    }
+}
+
+// The size of a record type, 0 past the table.
+fn size(types: &[u32], t: u32) -> u32
+    requires { ⌜ length (now types) % 9 ≡ 0 ⌝ }
+    ensures { λ r. ⌜ (r ≡ headOf (now (types .entry)) t) × (0 < r → t * 9 + 9 ≤ length (now (types .entry))) ⌝ }
+{
+    let at = (t as usize) * 9;
+    if types.len() <= at {
+        return 0;
+    }
+    types[at]
+}
+
+// Register a holds a new value, born at g.
+fn fresh(
+    registers: &mut [u8; 8],
+    words: &mut [u32; 256],
+    frames: &mut [u8; 32],
+    constants: &mut [u32; 32],
+    a: usize,
+    g: usize,
+    w: u32,
+    frame: u8,
+    constant: u32,
+)
+    requires { ⌜ (a < 8) × (g < 32) ⌝ }
+    ensures { λ _. ⌜ (now (registers .exit) ≡ set (now (registers .entry)) a (8 * g))
+        × (now (words .exit) ≡ set (now (words .entry)) (8 * g) w)
+        × (now (frames .exit) ≡ set (now (frames .entry)) g frame)
+        × (now (constants .exit) ≡ set (now (constants .entry)) g constant) ⌝ }
+{
+    registers[a] = (8 * g) as u8;
+    words[8 * g] = w;
+    frames[g] = frame;
+    constants[g] = constant;
+}
+
+// ---- opcode 7
+
+// Whether n is 1, 2, 4 or 8 and divides c.
+fn divides(n: u32, c: u32) -> bool
+    ensures { λ r. ⌜ r ≡ (steady n and eqb (c % n) 0) ⌝ }
+{
+    if n == 1 {
+        return true;
+    }
+    if n == 2 {
+        return c % 2 == 0;
+    }
+    if n == 4 {
+        return c % 4 == 0;
+    }
+    if n == 8 {
+        return c % 8 == 0;
+    }
+    false
+}
+
+// The type word after opcode 7 on a value of type word w.
+fn moved_word(types: &[u32], w: u32, c: u32) -> u32
+    requires { ⌜ length (now types) % 9 ≡ 0 ⌝ }
+    ensures { λ r. ⌜ ((tags : List ℕ) → r ≡ movedWord (tablesOf (now (types .entry)) tags) w c) ⌝ }
+{
+    if word::kind(w) < RUN {
+        return 0;
+    }
+    if !divides(size(types, word::record_type(w)), c) {
+        return 0;
+    }
+    RUN * KIND + w % KIND
+}
+
+// ---- loads and stores
+
+// The fields of the record behind v are at hand: those of the open record, those seen since the last close, or new ones.
+fn look(
+    types: &[u32],
+    words: &mut [u32; 256],
+    frames: &mut [u8; 32],
+    constants: &mut [u32; 32],
+    views: &mut [u8; 256],
+    fields: &mut [u8; 8],
+    since: u32,
+    base: u32,
+    v: u8,
+    t: u32,
+    g: usize,
+)
+    requires { ⌜ (g < 32) × (t * 9 + 9 ≤ length (now types)) × (length (now fields) ≡ 8) ⌝ }
+    ensures { λ _. ⌜ ((registers tags : List ℕ)
+        → reading registers (now (words .exit)) (now (frames .exit)) (now (constants .exit)) (now (views .exit)) (now (fields .exit)) since base
+        ≡ look (tablesOf (now (types .entry)) tags)
+        (reading registers (now (words .entry)) (now (frames .entry)) (now (constants .entry)) (now (views .entry)) (now (fields .entry)) since base)
+        g v t) ⌝ }
+{
+    if base < NO_BASE {
+        return;
+    }
+    let seen = fits::wide(views[v as usize]) % 32;
+    if since < seen {
+        name_all(fields, 8 * seen);
+        return;
+    }
+    let own = table::row(types, t as usize);
+    lay(words, &own[1..], 8 * g);
+    frames[g] = g as u8;
+    constants[g] = 0;
+    views[v as usize] = g as u8;
+    name_all(fields, 8 * (g as u32));
+}
+
+// Q12: no record is open, or v opened it.
+fn may_touch(base: u32, v: u8) -> bool
+    ensures { λ r. ⌜ r ≡ (not (ltb base 256) or eqb base v) ⌝ }
+{
+    if NO_BASE <= base {
+        return true;
+    }
+    base == (v as u32)
+}
+
+// A store of the value x at offset c of the record behind v, of type t and size n. It closes if each field fits its type.
+fn store(
+    types: &[u32],
+    tags: &[u32],
+    words: &[u32; 256],
+    frames: &[u8; 32],
+    constants: &[u32; 32],
+    fields: &mut [u8; 8],
+    since: u32,
+    v: u8,
+    t: u32,
+    n: u32,
+    c: u32,
+    x: u8,
+    g: usize,
+) -> Progress
+    requires { ⌜ (n ≡ headOf (now types) t) × (n ≤ 8) × (c < n) × (t * 9 + 9 ≤ length (now types)) × (g < 32) ⌝ }
+    ensures { λ r. ⌜ ((registers views : List ℕ) (base : ℕ)
+        → reading registers (now (words .entry)) (now (frames .entry)) (now (constants .entry)) views (now (fields .exit)) (r .since) (r .base)
+        ≡ stored (tablesOf (now (types .entry)) (now (tags .entry)))
+        (reading registers (now (words .entry)) (now (frames .entry)) (now (constants .entry)) views (now (fields .entry)) since base)
+        g v t c x)
+        × (r .number ≡ 0) ⌝ }
+{
+    fields[c as usize] = x;
+    let own = table::row(types, t as usize);
+    if fits::row_fits(
+        tags,
+        words,
+        frames,
+        constants,
+        0,
+        0,
+        n as usize,
+        &own[1..],
+        fields,
+    ) {
+        return Progress {
+            number: 0,
+            since: g as u32,
+            base: NO_BASE,
+        };
+    }
+    Progress {
+        number: 0,
+        since: since,
+        base: v as u32,
+    }
+}
+
+// A load or a store of register a at offset c of the record behind v, of type t: Q11 and Q12. The size past the table is 0, so
+// that Q11 has a no there.
+fn touch(
+    types: &[u32],
+    tags: &[u32],
+    registers: &mut [u8; 8],
+    words: &mut [u32; 256],
+    frames: &mut [u8; 32],
+    constants: &mut [u32; 32],
+    views: &mut [u8; 256],
+    fields: &mut [u8; 8],
+    s: Progress,
+    loads: bool,
+    a: usize,
+    v: u8,
+    t: u32,
+    c: u32,
+    g: usize,
+) -> Progress
+    requires { ⌜ (g < 32) × (a < 8) × (s .number ≡ 0) × (length (now fields) ≡ 8)
+        × (length (now types) % 9 ≡ 0) × ((t : ℕ) → headOf (now types) t ≤ 8) ⌝ }
+    ensures { λ r. ⌜ ((place : Question → Refusal)
+        → numbered place (r .number) (reading (now (registers .exit)) (now (words .exit)) (now (frames .exit)) (now (constants .exit)) (now (views .exit)) (now (fields .exit)) (r .since) (r .base))
+        ≡ touched (tablesOf (now (types .entry)) (now (tags .entry))) place g loads a v t c
+        (reading (now (registers .entry)) (now (words .entry)) (now (frames .entry)) (now (constants .entry)) (now (views .entry)) (now (fields .entry)) (s .since) (s .base)))
+        × (r .number ≤ 12) ⌝ }
+{
+    let n = size(types, t);
+    if n <= c {
+        return refused(OFFSET, s);
+    }
+    if !may_touch(s.base, v) {
+        return refused(OTHER_RECORD, s);
+    }
+    look(
+        types,
+        words,
+        frames,
+        constants,
+        views,
+        fields,
+        s.since,
+        s.base,
+        v,
+        t,
+        g,
+    );
+    if loads {
+        registers[a] = fields[c as usize];
+        return s;
+    }
+    let x = registers[a];
+    store(
+        types,
+        tags,
+        words,
+        frames,
+        constants,
+        fields,
+        s.since,
+        v,
+        t,
+        n,
+        c,
+        x,
+        g,
+    )
+}
+
+// A load or a store at birthplace g: Q10 to Q12.
+fn access(
+    types: &[u32],
+    tags: &[u32],
+    registers: &mut [u8; 8],
+    words: &mut [u32; 256],
+    frames: &mut [u8; 32],
+    constants: &mut [u32; 32],
+    views: &mut [u8; 256],
+    fields: &mut [u8; 8],
+    s: Progress,
+    word: u32,
+    g: usize,
+) -> Progress
+    requires { ⌜ (8 ≤ opcodeOf word) × (opcodeOf word ≤ 9) × (g < 32) × (aOf word < 8) × (bOf word < 8) × (s .number ≡ 0) × (length (now fields) ≡ 8)
+        × (length (now types) % 9 ≡ 0) × ((t : ℕ) → headOf (now types) t ≤ 8) ⌝ }
+    ensures { λ r. ⌜ ((place : Question → Refusal)
+        → numbered place (r .number) (reading (now (registers .exit)) (now (words .exit)) (now (frames .exit)) (now (constants .exit)) (now (views .exit)) (now (fields .exit)) (r .since) (r .base))
+        ≡ readPlain (tablesOf (now (types .entry)) (now (tags .entry))) place g (plainOf word)
+        (reading (now (registers .entry)) (now (words .entry)) (now (frames .entry)) (now (constants .entry)) (now (views .entry)) (now (fields .entry)) (s .since) (s .base)))
+        × (r .number ≤ 12) ⌝ }
+{
+    let a = word::a(word);
+    let b = word::b(word);
+    let c = word::c(word);
+    let v = registers[b];
+    let Reference::To(t) = fits::reference(tags, words, frames, constants, 0, 0, v) else {
+        return refused(NO_REFERENCE, s);
+    };
+    let loads = word::opcode(word) == LOAD;
+    touch(
+        types,
+        tags,
+        registers,
+        words,
+        frames,
+        constants,
+        views,
+        fields,
+        s,
+        loads,
+        a,
+        v,
+        t,
+        c,
+        g,
+    )
+}
+
+// ---- one instruction
+
+// One instruction before its block's end, at birthplace g.
+fn step(
+    types: &[u32],
+    tags: &[u32],
+    registers: &mut [u8; 8],
+    words: &mut [u32; 256],
+    frames: &mut [u8; 32],
+    constants: &mut [u32; 32],
+    views: &mut [u8; 256],
+    fields: &mut [u8; 8],
+    s: Progress,
+    word: u32,
+    g: usize,
+) -> Progress
+    requires { ⌜ (0 < opcodeOf word) × (opcodeOf word ≤ 9) × (g < 32) × (aOf word < 8) × (bOf word < 8) × (s .number ≡ 0) × (length (now fields) ≡ 8)
+        × (length (now types) % 9 ≡ 0) × ((t : ℕ) → headOf (now types) t ≤ 8) ⌝ }
+    ensures { λ r. ⌜ ((place : Question → Refusal)
+        → numbered place (r .number) (reading (now (registers .exit)) (now (words .exit)) (now (frames .exit)) (now (constants .exit)) (now (views .exit)) (now (fields .exit)) (r .since) (r .base))
+        ≡ readPlain (tablesOf (now (types .entry)) (now (tags .entry))) place g (plainOf word)
+        (reading (now (registers .entry)) (now (words .entry)) (now (frames .entry)) (now (constants .entry)) (now (views .entry)) (now (fields .entry)) (s .since) (s .base)))
+        × (r .number ≤ 12) ⌝ }
+{
+    let op = word::opcode(word);
+    if LOAD <= op {
+        return access(
+            types,
+            tags,
+            registers,
+            words,
+            frames,
+            constants,
+            views,
+            fields,
+            s,
+            word,
+            g,
+        );
+    }
+    let a = word::a(word);
+    let b = word::b(word);
+    let c = word::c(word);
+    if op == CONSTANT {
+        fresh(registers, words, frames, constants, a, g, 0, 0, c + 1);
+        return s;
+    }
+    if op == COPY {
+        registers[a] = registers[b];
+        return s;
+    }
+    if op < MOVE {
+        fresh(registers, words, frames, constants, a, g, 0, 0, 0);
+        return s;
+    }
+    let v = fits::index(registers[b]);
+    let w = moved_word(types, words[v], c);
+    let frame = frames[v / 8];
+    fresh(registers, words, frames, constants, a, g, w, frame, 0);
+    s
+}
+
+// Q7 to Q12 of an instruction of block b before its end, at birthplace g.
+pub fn early(
+    types: &[u32],
+    tags: &[u32],
+    registers: &mut [u8; 8],
+    words: &mut [u32; 256],
+    frames: &mut [u8; 32],
+    constants: &mut [u32; 32],
+    views: &mut [u8; 256],
+    fields: &mut [u8; 8],
+    s: Progress,
+    word: u32,
+    b: u32,
+    count: u32,
+    g: usize,
+) -> Progress
+    requires { ⌜ (g < 32) × (b < 4294967295) × (s .number ≡ 0) × (length (now fields) ≡ 8)
+        × (length (now types) % 9 ≡ 0) × ((t : ℕ) → headOf (now types) t ≤ 8) ⌝ }
+    ensures { λ r. ⌜ ((place : Question → Refusal)
+        → numbered place (r .number) (reading (now (registers .exit)) (now (words .exit)) (now (frames .exit)) (now (constants .exit)) (now (views .exit)) (now (fields .exit)) (r .since) (r .base))
+        ≡ earlyAsk (tablesOf (now (types .entry)) (now (tags .entry))) place g (decode word)
+        (reading (now (registers .entry)) (now (words .entry)) (now (frames .entry)) (now (constants .entry)) (now (views .entry)) (now (fields .entry)) (s .since) (s .base)))
+        × (r .number ≤ 15) ⌝ }
+{
+    let no = instruction::form(word, false, b, count);
+    if no != 0 {
+        return refused(no, s);
+    }
+    step(
+        types,
+        tags,
+        registers,
+        words,
+        frames,
+        constants,
+        views,
+        fields,
+        s,
+        word,
+        g,
+    )
+}
