@@ -6,13 +6,14 @@ use native.Mathlib.Nat.{sub-eq-zero-of-le}
 use native.Mathlib.Numerals.{add-one}
 use native.Mathlib.Omega.{arith}
 use lib.ListN.{length, getD}
-use borrow.Author.Tests.{lt-ltb, ne-eqb}
+use borrow.Author.Tests.{lt-ltb, le-ltb, ne-eqb}
+use Rattle.model.specs.Question.{q22}
 use Rattle.model.specs.Table.{Routine}
 use Rattle.model.specs.Machine.{decode, State, Step, goes, halts, faults, need, perform, step, onward, steps}
 use Rattle.table.proofs.Questions.{left}
 use Rattle.machine.specs.declared.Exit.{Exit}
 use Rattle.machine.specs.declared.Exit.the-variants.{No}
-use Rattle.machine.specs.Answer.{at, stepOf, past, exitOf, Covers}
+use Rattle.machine.specs.Answer.{at, questionOf, stepOf, past, exitOf, Covers}
 
 -- ---- one step more
 
@@ -36,22 +37,29 @@ steps-more P (suc k) s =
 
 -- ---- the steps of a block
 
-module _ (P : Routine) (part : List ℕ) (b f : ℕ) (C : Covers P b part) where
-  -- Q22 has no no inside a block
-  performs : (j n : ℕ) (r m : List ℕ) → j < length part → step P (at b j r m f n) ≡ perform P (decode (getD part j 0)) (at b j r m f n)
-  unfolding step need
-  performs j n r m h =
-      let i = C .inside in
-      let l = C .long in
-      rw (lt-ltb (P .start b + j) (P .total) (omega arith), C .same)
+module _ (P : Routine) (part : List ℕ) (room b f : ℕ) (C : Covers P b part room) where
+  module _ (j n : ℕ) (r m : List ℕ) where
+    -- past Q22
+    performs : j < room → step P (at b j r m f n) ≡ perform P (decode (getD part j 0)) (at b j r m f n)
+    unfolding step need
+    performs h = let l = C .left in rw (lt-ltb (P .start b + j) (P .total) (omega arith), C .same)
 
-  module _ (n i : ℕ) (r m : List ℕ) (k : ℕ) (r' m' : List ℕ) (h : i < length part - 1)
+    -- a no of Q22
+    past-code : room ≤ j → step P (at b j r m f n) ≡ faults q22 (at b j r m f n)
+    unfolding step need
+    past-code h = let l = C .left in rw (le-ltb (P .start b + j) (P .total) (omega arith))
+
+    pub body-past : j < length part - 1 → room ≤ j → stepOf 22 (at b j r m f n) (at b j r m f n) ≡ steps P (length part - 1 - j) (at b j r m f n)
+    unfolding stepOf questionOf steps onward
+    body-past h k = rw (left (length part - 1) j h, past-code k)
+
+  module _ (n i : ℕ) (r m : List ℕ) (k : ℕ) (r' m' : List ℕ) (h : i < length part - 1) (g : i < room)
       (s : stepOf k (at b i r' m' f (n + i)) (past (at b i r' m' f (n + i))) ≡ perform P (decode (getD part i 0)) (at b i r m f (n + i))) where
     -- the instruction at i and those after it
     from-here : steps P (length part - 1 - i) (at b i r m f (n + i))
         ≡ onward (stepOf k (at b i r' m' f (n + i)) (past (at b i r' m' f (n + i)))) (λ s'. steps P (length part - 1 - (i + 1)) s')
     unfolding steps
-    from-here = rw (left (length part - 1) i h, performs i (n + i) r m (omega arith), ← s)
+    from-here = rw (left (length part - 1) i h, performs i (n + i) r m g, ← s)
 
     pub body-on : k ≡ 0 → steps P (length part - 1 - i) (at b i r m f (n + i)) ≡ steps P (length part - 1 - (i + 1)) (at b (i + 1) r' m' f (n + (i + 1)))
     unfolding stepOf onward
@@ -79,7 +87,11 @@ module _ (P : Routine) (part : List ℕ) (b f : ℕ) (C : Covers P b part) where
     unfolding stepOf exitOf onward
     block-stops z = sym (whole ∙ rw (ne-eqb k 0 z))
 
-    pub block-ends : k ≡ 0 → suc j ≡ length part → (x : Exit) → exitOf x (at b j r m f n) ≡ perform P (decode (getD part j 0)) (at b j r m f n)
+    pub block-past : k ≡ 0 → room ≤ j → exitOf (No 22) (at b j r m f n) ≡ steps P (P .long b) s
+    unfolding stepOf exitOf questionOf onward
+    block-past z l = sym (whole ∙ rw z (past-code j n r m l))
+
+    pub block-ends : k ≡ 0 → j < room → (x : Exit) → exitOf x (at b j r m f n) ≡ perform P (decode (getD part j 0)) (at b j r m f n)
         → exitOf x (at b j r m f n) ≡ steps P (P .long b) s
     unfolding stepOf onward
-    block-ends z l x p = sym (whole ∙ rw z (performs j n r m (omega arith) ∙ sym p))
+    block-ends z l x p = sym (whole ∙ rw z (performs j n r m l ∙ sym p))

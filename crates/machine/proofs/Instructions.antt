@@ -1,157 +1,172 @@
--- One instruction: a law for each way out of `value`, `carry_out` and `leave`.
+-- One instruction: a law for each way out of `effect_of`, `carry_out` and `leave`.
 use mathlib.Core.Path.{_≡_, refl, sym, ap, _∙_}
 use mathlib.Core.Logic.{_⊎_, inl, inr}
-use mathlib.Core.Bool.{Bool, true, false}
+use mathlib.Core.Bool.{Bool, true, false, false≢true}
 use mathlib.Core.List.{List}
 use Prim.Native.Nat.{ℕ, suc, _+_, _/_, _%_, _<_, _≤_}
 use native.Mathlib.Numerals.{add-one}
 use native.Mathlib.Omega.{arith}
-use lib.Dec.{ltb}
+use lib.Dec.{ltb, eqb}
 use lib.ListN.{length, getD, set}
 use borrow.Author.Tests.{lt-ltb, le-ltb, ltb-true, eq-eqb, ne-eqb}
-use Rattle.model.specs.Question.{_and_, q18}
 use Rattle.model.specs.Word.{opcodeOf, aOf, bOf, cOf, sum, difference, product, signed, moved}
 use Rattle.model.specs.Table.{Routine}
 use Rattle.model.specs.Machine.{Plain, constant, copy, add, subtract, multiply, divide, move, load, store, End, halt, jump, ifEqual, ifLess, Instruction, plain, end, malformed, decode, hasForm, formed, wellFormed, put, reg, effect, addressed, registersAfter, memoryAfter, next, targetsExist, State, goes, faults, need, after, leave, perform}
 use Rattle.model.proofs.Logic.{byTest, byEqual, byLess}
 use Rattle.instruction.specs.Form.{leadsOn, formNo}
-use Rattle.instruction.proofs.Forms.{row-0, row-1, row-2, row-3, row-4, row-5, row-6, row-7, row-8, row-9, row-10, row-11, row-12, decoded, registers, known}
-use Rattle.instruction.proofs.Laws.{at-arithmetic, at-6, plain-word, end-word}
+use Rattle.instruction.proofs.Forms.{row-0, row-1, row-2, row-3, row-4, row-5, row-6, row-7, row-8, row-9, row-10, row-11, row-12, decoded, known}
+use Rattle.instruction.proofs.Laws.{at-1, at-2, at-arithmetic, at-6, at-pointer, plain-word, end-word}
+use Rattle.machine.specs.declared.Effect.{Effect}
+use Rattle.machine.specs.declared.Effect.the-variants.{Put, Read, Write, Refused}
 use Rattle.machine.specs.declared.Exit.the-variants.{To, Halted, No}
-use Rattle.machine.specs.Answer.{at, questionOf, stepOf, exitOf}
+use Rattle.machine.specs.Answer.{at, questionOf, stepOf, past, ifFormed, does, exitOf}
 
--- ---- the value of opcodes 1 to 7
+-- ---- the effect of an instruction inside a block
 
--- the third part of a sum, difference or product numbers a register
-pub third-register : (w : ℕ) → wellFormed w ≡ true → 2 < opcodeOf w → opcodeOf w < 6 → cOf w < 8
-third-register w q l h = let (x, y) = registers w q in ltb-true (cOf w) 8 (at-arithmetic w l h x y ∙ q)
-
-pub divisor : (w : ℕ) → wellFormed w ≡ true → opcodeOf w ≡ 6 → 0 < cOf w
-divisor w q e = let (x, y) = registers w q in ltb-true 0 (cOf w) (at-6 w e x y ∙ q)
-
-plain-same : {x y : Plain} → plain x ≡ plain y → x ≡ y
-plain-same e = cc
-
--- v is what the instruction x of a word w puts in its register
-module _ (w : ℕ) (r : List ℕ) (q : wellFormed w ≡ true) (v : ℕ) (x : Plain) (e : decode w ≡ plain x) where
-  by-row : (y : Plain) (t : Bool) → decode w ≡ formed t (plain y) → effect y r ≡ effect x r
-  by-row y t p = ap (λ (z : Plain). effect z r) (plain-same (sym (decoded w t (plain y) refl p q) ∙ e))
-
-  pub value-1 : opcodeOf w ≡ 1 → v ≡ cOf w → put (aOf w) v ≡ effect x r
-  unfolding effect
-  value-1 o h = rw h (by-row (constant (aOf w) (cOf w)) _ (row-1 w o))
-
-  module _ (b : ℕ) (eb : b ≡ bOf w) where
-    pub value-2 : opcodeOf w ≡ 2 → v ≡ reg r b → put (aOf w) v ≡ effect x r
-    unfolding effect
-    value-2 o h = rw (h, eb) (by-row (copy (aOf w) (bOf w)) _ (row-2 w o))
-
-    module _ (c : ℕ) (ec : c ≡ cOf w) where
-      pub value-3 : opcodeOf w ≡ 3 → v ≡ sum (reg r b) (reg r c) → put (aOf w) v ≡ effect x r
-      unfolding effect
-      value-3 o h = rw (h, eb, ec) (by-row (add (aOf w) (bOf w) (cOf w)) _ (row-3 w o))
-
-      pub value-4 : opcodeOf w ≡ 4 → v ≡ difference (reg r b) (reg r c) → put (aOf w) v ≡ effect x r
-      unfolding effect
-      value-4 o h = rw (h, eb, ec) (by-row (subtract (aOf w) (bOf w) (cOf w)) _ (row-4 w o))
-
-      pub value-5 : opcodeOf w ≡ 5 → v ≡ product (reg r b) (reg r c) → put (aOf w) v ≡ effect x r
-      unfolding effect
-      value-5 o h = rw (h, eb, ec) (by-row (multiply (aOf w) (bOf w) (cOf w)) _ (row-5 w o))
-
-      pub value-6 : opcodeOf w ≡ 6 → v ≡ reg r b / c → put (aOf w) v ≡ effect x r
-      unfolding effect
-      value-6 o h = rw (h, eb, ec) (by-row (divide (aOf w) (bOf w) (cOf w)) _ (row-6 w o))
-
-      pub value-7 : opcodeOf w ≡ 7 → v ≡ moved (reg r b) (signed c) → put (aOf w) v ≡ effect x r
-      unfolding effect
-      value-7 o h = rw (h, eb, ec) (by-row (move (aOf w) (bOf w) (cOf w)) _ (row-7 w o))
-
--- ---- an instruction inside a block
-
--- a word in whose form Q7 and Q8 find no no: opcodes 1 to 9
-formed-word : (w : ℕ) → formNo (decode w) false 0 0 ≡ 0 → wellFormed w ≡ true
-unfolding formNo wellFormed
-formed-word w e = go (decode w) e
+malformed-word : (w : ℕ) → false ≡ wellFormed w → decode w ≡ malformed
+unfolding wellFormed
+malformed-word w e = go (decode w) e
   where
-    go : (x : Instruction) → formNo x false 0 0 ≡ 0 → hasForm x ≡ true
-    go malformed e = absurd (omega arith)
-    go (plain x) e = refl
-    go (end x) e = refl
+    go : (x : Instruction) → false ≡ hasForm x → x ≡ malformed
+    go (plain x) e = absurd (false≢true e)
+    go (end x) e = absurd (false≢true e)
+    go malformed e = refl
 
-not-end : (w : ℕ) → formNo (decode w) false 0 0 ≡ 0 → (opcodeOf w ≡ 0) ⊎ (9 < opcodeOf w) → ⊥
-unfolding formNo
-not-end w e k =
-    let d = end-word w (formed-word w e) k .1 in
-    let z : _≡_ {A = ℕ} 8 0 = rw d at e in
-    omega arith
+above : {o : ℕ} (k : ℕ) → k < o → (o ≡ suc k → ⊥) → suc k < o
+above k h n = omega arith
 
--- what is known of a word inside a block past Q7 and Q8
-abbrev pub Inside : ℕ → Type 0
-Inside w = (wellFormed w ≡ true) × (0 < opcodeOf w) × (opcodeOf w < 10)
+positive : {o : ℕ} → (o ≡ 0 → ⊥) → 0 < o
+positive n = omega arith
 
-pub inside-word : (w n : ℕ) → n ≡ formNo (decode w) false 0 0 → n ≡ 0 → Inside w
-inside-word w n e z =
-    let p = sym e ∙ z in
-    (formed-word w p, byEqual (opcodeOf w) 0 (λ o. absurd (not-end w p (inl o))) (λ o. omega arith), byLess (opcodeOf w) 10 (λ o. o) (λ o. absurd (not-end w p (inr o))))
+-- opcodes other than 1 to 9
+pub other-opcode : (o : ℕ) → (o ≡ 1 → ⊥) → (o ≡ 2 → ⊥) → (o ≡ 3 → ⊥) → (o ≡ 4 → ⊥) → (o ≡ 5 → ⊥) → (o ≡ 6 → ⊥) → (o ≡ 7 → ⊥) → (o ≡ 8 → ⊥) → (o ≡ 9 → ⊥)
+    → (o ≡ 0) ⊎ (9 < o)
+other-opcode o n1 n2 n3 n4 n5 n6 n7 n8 n9 =
+    byEqual o 0 (λ z. inl z) (λ z. inr (above 8 (above 7 (above 6 (above 5 (above 4 (above 3 (above 2 (above 1 (above 0 (positive z) n1) n2) n3) n4) n5) n6) n7) n8) n9))
 
 module _ (P : Routine) (b j f n : ℕ) (r m : List ℕ) (d : suc j ≡ P .long b → ⊥) (w : ℕ) where
   abbrev here : State
   here = at b j r m f n
 
-  pub form-refuses : (k : ℕ) (s : State) → k ≡ formNo (decode w) false 0 0 → (k ≡ 0 → ⊥) → stepOf k here s ≡ perform P (decode w) here
-  unfolding formNo stepOf questionOf perform need
-  form-refuses k s e z = go (decode w) e
-    where
-      go : (x : Instruction) → k ≡ formNo x false 0 0 → stepOf k here s ≡ perform P x here
-      go malformed e = rw e
-      go (plain x) e = absurd (z e)
-      go (end x) e = rw (e, ne-eqb (suc j) (P .long b) d)
+  -- Q7
+  pub refused-form : false ≡ wellFormed w → does (Refused 7) here ≡ perform P (decode w) here
+  unfolding does stepOf questionOf perform
+  refused-form q = rw (malformed-word w q)
 
-  inside : (x : Plain) → decode w ≡ plain x → addressed (effect x r) m ≡ true → goes (after here (effect x r)) ≡ perform P (decode w) here
-  unfolding perform need
-  inside x e h = rw (e, ne-eqb (suc j) (P .long b) d, h)
+  -- an opcode that ends a block, or none
+  pub refused-end : (k : ℕ) → k ≡ formNo (decode w) false 0 0 → (opcodeOf w ≡ 0) ⊎ (9 < opcodeOf w) → does (Refused k) here ≡ perform P (decode w) here
+  unfolding formNo does stepOf questionOf perform need
+  refused-end k e o =
+      byTest (wellFormed w)
+      (λ q. let p = end-word w q o .1 in let y : k ≡ 8 = rw p at e in rw (y, p, ne-eqb (suc j) (P .long b) d))
+      (λ q. let p = malformed-word w (sym q) in let y : k ≡ 7 = rw p at e in rw (y, p))
 
-  outside : (x : Plain) → decode w ≡ plain x → addressed (effect x r) m ≡ false → faults q18 here ≡ perform P (decode w) here
-  unfolding perform need
-  outside x e h = rw (e, ne-eqb (suc j) (P .long b) d, h)
+  puts : (x : Plain) (a v : ℕ) → decode w ≡ plain x → put a v ≡ effect x r → does (Put a v) here ≡ perform P (decode w) here
+  unfolding does perform need addressed
+  puts x a v e p = rw (e, ne-eqb (suc j) (P .long b) d, ← p)
 
-  put-on : (v : ℕ) (x : Plain) → decode w ≡ plain x → put (aOf w) v ≡ effect x r → goes (at b (suc j) (set r (aOf w) v) m f (suc n)) ≡ perform P (decode w) here
-  unfolding addressed registersAfter memoryAfter
-  put-on v x e p = rw (← p) at (inside x e (rw (← p)))
+  -- a row whose test is as t
+  by-form : (t t' : Bool) (x : Plain) (a v : ℕ) → t ≡ wellFormed w → decode w ≡ formed t' (plain x) → (t ≡ true → put a v ≡ effect x r)
+      → does (ifFormed t a v) here ≡ perform P (decode w) here
+  by-form true t' x a v q p h = puts x a v (decoded w t' (plain x) refl p (sym q)) (h refl)
+  by-form false t' x a v q p h = refused-form q
 
-  -- a value put in register a
-  pub puts : (s : State) (a v : ℕ) (r' : List ℕ) → Inside w → a ≡ aOf w → ((x : Plain) → decode w ≡ plain x → put (aOf w) v ≡ effect x r) → r' ≡ set r a v
-      → stepOf 0 s (at b (suc j) r' m f (suc n)) ≡ perform P (decode w) here
-  unfolding stepOf
-  puts s a v r' (q, l, h) ea p er = let (x, e) = plain-word w q l h in rw (er, ea) (put-on v x e (p x e))
+  module _ (a b' c : ℕ) (ea : a ≡ aOf w) (eb : b' ≡ bOf w) (ec : c ≡ cOf w) (ha : a ≤ 7) (hb : b' ≤ 7) where
+    a-in : aOf w < 8
+    a-in = omega arith
 
-  loads : wellFormed w ≡ true → opcodeOf w ≡ 8 → decode w ≡ plain (load (aOf w) (bOf w) (cOf w))
-  loads q o = decoded w _ (plain (load (aOf w) (bOf w) (cOf w))) refl (row-8 w o) q
+    b-in : bOf w < 8
+    b-in = omega arith
 
-  stores : wellFormed w ≡ true → opcodeOf w ≡ 9 → decode w ≡ plain (store (aOf w) (bOf w) (cOf w))
-  stores q o = decoded w _ (plain (store (aOf w) (bOf w) (cOf w))) refl (row-9 w o) q
+    pub does-1 : opcodeOf w ≡ 1 → (e : Effect) → e ≡ ifFormed (eqb b' 0) a c → does e here ≡ perform P (decode w) here
+    unfolding effect
+    does-1 o e q = rw (q, ea, eb, ec) (by-form _ _ (constant (aOf w) (cOf w)) (aOf w) (cOf w) (at-1 w o a-in) (row-1 w o) (λ _. refl))
 
-  -- x is the address of a load or store
-  module _ (k : Inside w) (x b' c' : ℕ) (ex : x ≡ sum (reg r b') c') (eb : b' ≡ bOf w) (ec : c' ≡ cOf w) where
-    address : x ≡ sum (reg r (bOf w)) (cOf w)
-    address = rw (ex, eb, ec)
+    module _ (x : ℕ) (ex : x ≡ reg r b') where
+      pub does-2 : opcodeOf w ≡ 2 → (e : Effect) → e ≡ ifFormed (eqb c 0) a x → does e here ≡ perform P (decode w) here
+      unfolding effect
+      does-2 o e q = rw (q, ex, ea, eb, ec) (by-form _ _ (copy (aOf w) (bOf w)) (aOf w) (reg r (bOf w)) (at-2 w o a-in b-in) (row-2 w o) (λ _. refl))
 
-    pub address-past : 8 ≤ opcodeOf w → length m ≤ x → (s : State) → stepOf 18 here s ≡ perform P (decode w) here
-    unfolding stepOf questionOf effect addressed
-    address-past l h s =
-        byEqual (opcodeOf w) 8 (λ o. outside _ (loads (k .0) o) (rw (← address) (le-ltb x (length m) h)))
-        (λ o. outside _ (stores (k .0) (omega arith)) (rw (← address) (le-ltb x (length m) h)))
+      module _ (y : ℕ) (ey : y ≡ reg r (c % 8)) (v : ℕ) where
+        third : ltb (cOf w) 8 ≡ true → cOf w % 8 ≡ cOf w
+        third t = let h = ltb-true (cOf w) 8 t in omega arith
 
-    pub loaded : (s : State) (a : ℕ) (r' : List ℕ) → a ≡ aOf w → opcodeOf w ≡ 8 → x < length m → r' ≡ set r a (getD m x 0)
-        → stepOf 0 s (at b (suc j) r' m f (suc n)) ≡ perform P (decode w) here
-    unfolding stepOf effect addressed registersAfter memoryAfter
-    loaded s a r' ea o h er = rw (er, ea, address) (inside _ (loads (k .0) o) (rw (← address) (lt-ltb x (length m) h)))
+        pub does-3 : opcodeOf w ≡ 3 → v ≡ sum x y → (e : Effect) → e ≡ ifFormed (ltb c 8) a v → does e here ≡ perform P (decode w) here
+        unfolding effect
+        does-3 o ev e q =
+            rw (q, ev, ex, ey, ea, eb, ec)
+            (by-form _ _ (add (aOf w) (bOf w) (cOf w)) (aOf w) _ (at-arithmetic w (omega arith) (omega arith) a-in b-in) (row-3 w o) (λ t. rw (third t)))
 
-    pub stored : (s : State) (a : ℕ) → a ≡ aOf w → opcodeOf w ≡ 9 → x < length m
-        → stepOf 0 s (at b (suc j) r (set m x (reg r a)) f (suc n)) ≡ perform P (decode w) here
-    unfolding stepOf effect addressed registersAfter memoryAfter
-    stored s a ea o h = rw (ea, address) (inside _ (stores (k .0) o) (rw (← address) (lt-ltb x (length m) h)))
+        pub does-4 : opcodeOf w ≡ 4 → v ≡ difference x y → (e : Effect) → e ≡ ifFormed (ltb c 8) a v → does e here ≡ perform P (decode w) here
+        unfolding effect
+        does-4 o ev e q =
+            rw (q, ev, ex, ey, ea, eb, ec)
+            (by-form _ _ (subtract (aOf w) (bOf w) (cOf w)) (aOf w) _ (at-arithmetic w (omega arith) (omega arith) a-in b-in) (row-4 w o) (λ t. rw (third t)))
+
+        pub does-5 : opcodeOf w ≡ 5 → v ≡ product x y → (e : Effect) → e ≡ ifFormed (ltb c 8) a v → does e here ≡ perform P (decode w) here
+        unfolding effect
+        does-5 o ev e q =
+            rw (q, ev, ex, ey, ea, eb, ec)
+            (by-form _ _ (multiply (aOf w) (bOf w) (cOf w)) (aOf w) _ (at-arithmetic w (omega arith) (omega arith) a-in b-in) (row-5 w o) (λ t. rw (third t)))
+
+      pub does-6 : opcodeOf w ≡ 6 → (c ≡ 0 → ⊥) → (v : ℕ) → v ≡ x / c → does (Put a v) here ≡ perform P (decode w) here
+      unfolding effect
+      does-6 o h v ev =
+          let q = sym (at-6 w o a-in b-in) ∙ lt-ltb 0 (cOf w) (omega arith) in
+          rw (ev, ex, ea, eb, ec) (puts _ (aOf w) _ (decoded w _ (plain (divide (aOf w) (bOf w) (cOf w))) refl (row-6 w o) q) refl)
+
+      -- opcodes 7 to 9 want no more than registers
+      formed-7 : 6 < opcodeOf w → opcodeOf w < 10 → wellFormed w ≡ true
+      formed-7 l h = sym (at-pointer w l h a-in b-in)
+
+      pub does-7 : opcodeOf w ≡ 7 → (v : ℕ) → v ≡ moved x (signed c) → does (Put a v) here ≡ perform P (decode w) here
+      unfolding effect
+      does-7 o v ev =
+          rw (ev, ex, ea, eb, ec)
+          (puts _ (aOf w) _ (decoded w _ (plain (move (aOf w) (bOf w) (cOf w))) refl (row-7 w o) (formed-7 (omega arith) (omega arith))) refl)
+
+      pub does-8 : opcodeOf w ≡ 8 → (z : ℕ) → z ≡ sum x c → does (Read a z) here ≡ perform P (decode w) here
+      unfolding effect does perform need addressed
+      does-8 o z ez =
+          rw (ez, ex, ea, eb, ec, decoded w _ (plain (load (aOf w) (bOf w) (cOf w))) refl (row-8 w o) (formed-7 (omega arith) (omega arith)), ne-eqb (suc j) (P .long b) d)
+
+      pub does-9 : opcodeOf w ≡ 9 → (z y : ℕ) → z ≡ sum x c → y ≡ reg r a → does (Write z y) here ≡ perform P (decode w) here
+      unfolding effect does perform need addressed
+      does-9 o z y ez ey =
+          rw (ez, ey, ex, ea, eb, ec, decoded w _ (plain (store (aOf w) (bOf w) (cOf w))) refl (row-9 w o) (formed-7 (omega arith) (omega arith)), ne-eqb (suc j) (P .long b) d)
+
+    pub no-divisor : opcodeOf w ≡ 6 → c ≡ 0 → does (Refused 7) here ≡ perform P (decode w) here
+    no-divisor o h = refused-form (sym (le-ltb 0 (cOf w) (omega arith)) ∙ at-6 w o a-in b-in)
+
+-- ---- an effect carried out
+
+module _ (b j f n : ℕ) (r m : List ℕ) (e : Effect) (s : State) where
+  pub put-done : (a v : ℕ) (r' : List ℕ) → e ≡ Put a v → r' ≡ set r a v → stepOf 0 s (at b (suc j) r' m f (suc n)) ≡ does e (at b j r m f n)
+  unfolding stepOf does registersAfter memoryAfter
+  put-done a v r' q er = rw (q, er)
+
+  module _ (a x : ℕ) (q : e ≡ Read a x) where
+    pub read-past : length m ≤ x → stepOf 18 (at b j r m f n) s ≡ does e (at b j r m f n)
+    unfolding stepOf questionOf does need
+    read-past h = rw (q, le-ltb x (length m) h)
+
+    pub read-done : x < length m → (r' : List ℕ) → r' ≡ set r a (getD m x 0) → stepOf 0 s (at b (suc j) r' m f (suc n)) ≡ does e (at b j r m f n)
+    unfolding stepOf does need registersAfter memoryAfter
+    read-done h r' er = rw (q, lt-ltb x (length m) h, er)
+
+  module _ (x y : ℕ) (q : e ≡ Write x y) where
+    pub write-past : length m ≤ x → stepOf 18 (at b j r m f n) s ≡ does e (at b j r m f n)
+    unfolding stepOf questionOf does need
+    write-past h = rw (q, le-ltb x (length m) h)
+
+    pub write-done : x < length m → stepOf 0 s (at b (suc j) r (set m x y) f (suc n)) ≡ does e (at b j r m f n)
+    unfolding stepOf does need registersAfter memoryAfter
+    write-done h = rw (q, lt-ltb x (length m) h)
+
+pub not-done : (b j f n : ℕ) (r m : List ℕ) (e : Effect) (k : ℕ) → e ≡ Refused k
+    → stepOf k (at b j r m f n) (past (at b j r m f n)) ≡ does e (at b j r m f n)
+unfolding does
+not-done b j f n r m e k q = rw q
 
 -- ---- the last instruction of a block
 

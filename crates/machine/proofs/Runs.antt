@@ -71,7 +71,8 @@ asked-number n h =
     (λ d7. byEqual n 8 (λ e. rw e)
     (λ d8. byEqual n 9 (λ e. rw e)
     (λ d9. byEqual n 18 (λ e. rw e)
-    (λ d18. absurd (h (rw (ne-eqb n 7 d7, ne-eqb n 8 d8, ne-eqb n 9 d9, ne-eqb n 18 d18)))))))
+    (λ d18. byEqual n 22 (λ e. rw e)
+    (λ d22. absurd (h (rw (ne-eqb n 7 d7, ne-eqb n 8 d8, ne-eqb n 9 d9, ne-eqb n 18 d18, ne-eqb n 22 d22))))))))
 
 -- ---- where a block's end leads
 
@@ -94,12 +95,12 @@ module _ (blocks code : List ℕ) (q : lengthsAsk (routineOf blocks code) ≡ ok
   unfolding routineOf
   bounds b h = let S = sized blocks code q in (S .least b h, S .inside b h)
 
-  pub covers : (b first past : ℕ) → b < rows blocks → first ≡ startOf blocks b → past ≡ startOf blocks (b + 1) → Covers (routineOf blocks code) b (take (past - first) (drop first code))
+  pub covers : (b first past : ℕ) → b < rows blocks → first ≡ startOf blocks b → past ≡ startOf blocks (b + 1) → Covers (routineOf blocks code) b (take (past - first) (drop first code)) (length code - first)
   unfolding routineOf
   covers b first past h e₁ e₂ =
       let (l, k) = bounds b h in
       let d : past - first ≡ headOf blocks b = omega (arith, start-more blocks b) in
-      rw (d, e₁) (record { same = refl; long = simp (length-take, length-drop) (omega arith); inside = k })
+      rw (d, e₁) (record { same = refl; long = simp (length-take, length-drop) (omega arith); left = omega arith })
 
   -- a block's end leads to a block of the table
   pub leads-on : (n b j f c c' : ℕ) (r m r' m' : List ℕ) → b < rows blocks

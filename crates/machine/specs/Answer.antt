@@ -1,12 +1,15 @@
 -- How the answers of the functions read as the model's states and steps.
 use mathlib.Core.Path.{_≡_}
+use mathlib.Core.Bool.{Bool}
 use mathlib.Core.List.{List}
 use Prim.Native.Nat.{ℕ, suc, _+_, _≤_}
-use lib.Dec.{eqb}
+use lib.Dec.{ltb, eqb}
 use lib.ListN.{length}
-use Rattle.model.specs.Question.{pick, Question, q1, q7, q8, q9, q18}
+use Rattle.model.specs.Question.{pick, Question, q1, q7, q8, q9, q18, q22}
 use Rattle.model.specs.Table.{Routine, routineOf}
-use Rattle.model.specs.Machine.{State, Step, goes, halts, faults, atHalt, entering, runBlocks, Run, answerOf, begin}
+use Rattle.model.specs.Machine.{put, read, write, State, Step, goes, halts, faults, need, after, atHalt, entering, runBlocks, Run, answerOf, begin}
+use Rattle.machine.specs.declared.Effect.{Effect}
+use Rattle.machine.specs.declared.Effect.the-variants.{Put, Read, Write, Refused}
 use Rattle.machine.specs.declared.Exit.{Exit}
 use Rattle.machine.specs.declared.Exit.the-variants.{To, Halted, No}
 
@@ -16,7 +19,7 @@ at b j r m f n = record { block = b; offset = j; registers = r; memory = m; fini
 
 -- the question that an instruction was refused with, by its number; q1 is asked at no instruction
 unfoldable pub questionOf : ℕ → Question
-questionOf n = pick (eqb n 7) q7 (pick (eqb n 8) q8 (pick (eqb n 9) q9 (pick (eqb n 18) q18 q1)))
+questionOf n = pick (eqb n 7) q7 (pick (eqb n 8) q8 (pick (eqb n 9) q9 (pick (eqb n 18) q18 (pick (eqb n 22) q22 q1))))
 
 -- number 0: gone on to the state s'; else a no in the state s
 unfoldable pub stepOf : ℕ → State → State → Step
@@ -26,17 +29,28 @@ stepOf n s s' = pick (eqb n 0) (goes s') (faults (questionOf n) s)
 abbrev pub past : State → State
 past s = at (s .block) (suc (s .offset)) (s .registers) (s .memory) (s .finished) (suc (s .carried))
 
+-- v for register a, where the instruction has its form
+abbrev pub ifFormed : Bool → ℕ → ℕ → Effect
+ifFormed t a v = pick t (Put a v) (Refused 7)
+
+-- the step that an effect makes: Q18, then registers and memory; or a no by its number
+unfoldable pub does : Effect → State → Step
+does (Put a v) s = goes (after s (put a v))
+does (Read a x) s = need (ltb x (length (s .memory))) q18 s λ _. goes (after s (read a x))
+does (Write x y) s = need (ltb x (length (s .memory))) q18 s λ _. goes (after s (write x y))
+does (Refused n) s = stepOf n s (past s)
+
 -- the end of a block whose run came to the state s
 unfoldable pub exitOf : Exit → State → Step
 exitOf (To t) s = goes (entering s t)
 exitOf Halted s = halts (atHalt s)
 exitOf (No n) s = faults (questionOf n) s
 
--- part is the code of block b, which lies inside the code
-pub record Covers (P : Routine) (b : ℕ) (part : List ℕ) : Type 0 where
+-- part is the code of block b, from whose first instruction on the code has room words
+pub record Covers (P : Routine) (b : ℕ) (part : List ℕ) (room : ℕ) : Type 0 where
   pub same : P .part b ≡ part
   pub long : P .long b ≡ length part
-  pub inside : P .start b + P .long b ≤ P .total
+  pub left : P .start b + room ≡ P .total
 
 -- what a run past its opening questions comes to
 abbrev pub ranOf : List ℕ → List ℕ → List ℕ → ℕ → List ℕ → ℕ → Run

@@ -6,11 +6,10 @@ ghost use Prim.Native.Nat.{ℕ, suc, _+_, _-_, _/_, _<_, _≤_};
 ghost use lib.Dec.{ltb, eqb};
 ghost use lib.ListN.{length, getD, set};
 ghost use Rattle.model.specs.Question.{pick, ok};
-ghost use Rattle.model.specs.Word.{aOf, sum, signed, moved};
+ghost use Rattle.model.specs.Word.{sum, signed, moved};
 ghost use Rattle.model.specs.Table.{Routine, routineOf, startOf, rows, lengthsAsk};
-ghost use Rattle.model.specs.Machine.{Plain, plain, decode, wellFormed, put, effect};
-ghost use Rattle.model.specs.Machine.{perform, steps, run, returned};
-ghost use Rattle.machine.specs.Answer.{at, stepOf, past, exitOf, Covers, ranOf};
+ghost use Rattle.model.specs.Machine.{decode, perform, steps, run, returned};
+ghost use Rattle.machine.specs.Answer.{at, ifFormed, does, stepOf, past, exitOf, Covers, ranOf};
 use model::RunAnswer;
 use model::Verdict;
 
@@ -32,18 +31,28 @@ const ADD: u32 = 3;
 
 const SUBTRACT: u32 = 4;
 
+const MULTIPLY: u32 = 5;
+
 const DIVIDE: u32 = 6;
 
 const MOVE: u32 = 7;
 
 const LOAD: u32 = 8;
 
+const STORE: u32 = 9;
+
 const JUMP: u32 = 10;
 
 const IF_EQUAL: u32 = 11;
 
-// The number of Q18.
+const LAST_REGISTER: usize = 7;
+
+// The numbers of Q7, Q18 and Q22.
+const MALFORMED: u32 = 7;
+
 const OUT_OF_MEMORY: u32 = 18;
+
+const OUT_OF_CODE: u32 = 22;
 
 // ---- one instruction
 
@@ -80,41 +89,81 @@ fn moved_by(x: u32, c: u32) -> u32
     word::moved(x, word::signed(c))
 }
 
-// What opcodes 1 to 7 put in register a.
-fn value(registers: &[u32; 8], w: u32) -> u32
-    requires { ⌜ (wellFormed w ≡ true) × (0 < w / 16777216) × (w / 16777216 < 8) ⌝ }
-    ensures { λ r. ⌜ ((x : Plain) → decode w ≡ plain x → put (aOf w) r ≡ effect x (now (registers .entry))) ⌝ }
-{
-    let op = word::opcode(w);
-    let c = word::c(w);
-    if op == CONSTANT {
-        return c;
-    }
-    let x = registers[word::b(w)];
-    if op == COPY {
-        return x;
-    }
-    if op == DIVIDE {
-        return word::quotient(x, c);
-    }
-    if op == MOVE {
-        return moved_by(x, c);
-    }
-    let y = registers[c as usize];
-    if op == ADD {
-        return word::sum(x, y);
-    }
-    if op == SUBTRACT {
-        return word::difference(x, y);
-    }
-    word::product(x, y)
-}
-
 // The address of a load or store. Here c is not signed.
 fn address(base: u32, c: u32) -> usize
     ensures { λ r. ⌜ r ≡ sum base c ⌝ }
 {
     word::sum(base, c) as usize
+}
+
+// What an instruction does, known before memory is looked at: a register and the word that goes there; a register and the address
+// whose word goes there; an address and the word that goes there. Or the number of the question that had a no.
+enum Effect {
+    Put(usize, u32),
+    Read(usize, usize),
+    Write(usize, u32),
+    Refused(u32),
+}
+
+// v for register a, where the parts of the instruction are as its opcode wants them.
+fn if_formed(formed: bool, a: usize, v: u32) -> Effect
+    ensures { λ r. ⌜ r ≡ ifFormed formed a v ⌝ }
+{
+    if formed {
+        return Effect::Put(a, v);
+    }
+    Effect::Refused(MALFORMED)
+}
+
+// The effect of an instruction that is not its block's last. It is not asked Q9, so it is of no account which block it is in.
+fn effect_of(registers: &[u32; 8], w: u32) -> Effect
+    ensures { λ r. ⌜ ((P : Routine) (b j f n : ℕ) (m : List ℕ) → (suc j ≡ P .long b → ⊥)
+        → does r (at b j (now (registers .entry)) m f n) ≡ perform P (decode w) (at b j (now (registers .entry)) m f n)) ⌝ }
+{
+    let op = word::opcode(w);
+    let a = word::a(w);
+    let b = word::b(w);
+    let c = word::c(w);
+    if LAST_REGISTER < a {
+        return Effect::Refused(MALFORMED);
+    }
+    if LAST_REGISTER < b {
+        return Effect::Refused(MALFORMED);
+    }
+    let x = registers[b];
+    let y = registers[(c % 8) as usize];
+    if op == CONSTANT {
+        return if_formed(b == 0, a, c);
+    }
+    if op == COPY {
+        return if_formed(c == 0, a, x);
+    }
+    if op == ADD {
+        return if_formed(c < 8, a, word::sum(x, y));
+    }
+    if op == SUBTRACT {
+        return if_formed(c < 8, a, word::difference(x, y));
+    }
+    if op == MULTIPLY {
+        return if_formed(c < 8, a, word::product(x, y));
+    }
+    if op == DIVIDE {
+        if c == 0 {
+            return Effect::Refused(MALFORMED);
+        }
+        return Effect::Put(a, word::quotient(x, c));
+    }
+    if op == MOVE {
+        return Effect::Put(a, moved_by(x, c));
+    }
+    if op == LOAD {
+        return Effect::Read(a, address(x, c));
+    }
+    if op == STORE {
+        let v = registers[a];
+        return Effect::Write(address(x, c), v);
+    }
+    Effect::Refused(instruction::form(w, false, 0, 0))
 }
 
 // The number of the question that had a no, 0 where the instruction was carried out, and the registers after it.
@@ -130,30 +179,33 @@ fn outcome(number: u32, registers: [u32; 8]) -> Stepped
     Stepped { number, registers }
 }
 
-// An instruction that is not its block's last. It is not asked Q9, so it is of no account which block it is in.
-fn carry_out(registers: [u32; 8], memory: &mut [u32], w: u32) -> Stepped
-    ensures { λ r. ⌜ ((P : Routine) (b j f n : ℕ) → (suc j ≡ P .long b → ⊥)
+// An effect carried out: Q18, then registers and memory.
+fn carry_out(registers: [u32; 8], memory: &mut [u32], e: Effect) -> Stepped
+    ensures { λ r. ⌜ ((b j f n : ℕ)
         → stepOf (r .number) (at b j (r .registers) (now (memory .exit)) f n) (past (at b j (r .registers) (now (memory .exit)) f n))
-        ≡ perform P (decode w) (at b j registers (now (memory .entry)) f n)) ⌝ }
+        ≡ does e (at b j registers (now (memory .entry)) f n)) ⌝ }
 {
-    let no = instruction::form(w, false, 0, 0);
-    if no != 0 {
-        return outcome(no, registers);
+    match e {
+        Effect::Put(a, v) => {
+            return outcome(0, with(registers, a, v));
+        }
+        Effect::Read(a, x) => {
+            if memory.len() <= x {
+                return outcome(OUT_OF_MEMORY, registers);
+            }
+            return outcome(0, with(registers, a, memory[x]));
+        }
+        Effect::Write(x, y) => {
+            if memory.len() <= x {
+                return outcome(OUT_OF_MEMORY, registers);
+            }
+            memory[x] = y;
+            return outcome(0, registers);
+        }
+        Effect::Refused(n) => {
+            return outcome(n, registers);
+        }
     }
-    let op = word::opcode(w);
-    let a = word::a(w);
-    if op < LOAD {
-        return outcome(0, with(registers, a, value(&registers, w)));
-    }
-    let x = address(registers[word::b(w)], word::c(w));
-    if memory.len() <= x {
-        return outcome(OUT_OF_MEMORY, registers);
-    }
-    if op == LOAD {
-        return outcome(0, with(registers, a, memory[x]));
-    }
-    memory[x] = registers[a];
-    outcome(0, registers)
 }
 
 // Comparisons are unsigned.
@@ -203,10 +255,10 @@ struct Passed {
     registers: [u32; 8],
 }
 
-// A block's code up to its last instruction.
-fn body(part: &[u32], registers: [u32; 8], memory: &mut [u32]) -> Passed
+// A block's code up to its last instruction. The code has room words from the block's first on: Q22 asks whether an offset is below.
+fn body(part: &[u32], room: usize, registers: [u32; 8], memory: &mut [u32]) -> Passed
     requires { ⌜ 1 ≤ length (now part) ⌝ }
-    ensures steps { λ r. ⌜ ((P : Routine) (b f n : ℕ) → Covers P b (now (part .entry))
+    ensures steps { λ r. ⌜ ((P : Routine) (b f n : ℕ) → Covers P b (now (part .entry)) room
         → stepOf (r .number) (at b (r .at) (r .registers) (now (memory .exit)) f (n + r .at)) (at b (r .at) (r .registers) (now (memory .exit)) f (n + r .at))
         ≡ steps P (length (now (part .entry)) - 1) (at b 0 registers (now (memory .entry)) f n)) ⌝ }
     ensures place { λ r. ⌜ (r .at < length (now (part .entry))) × (r .number ≡ 0 → suc (r .at) ≡ length (now (part .entry))) ⌝ }
@@ -215,7 +267,15 @@ fn body(part: &[u32], registers: [u32; 8], memory: &mut [u32]) -> Passed
     let mut current = registers;
     let mut i = 0;
     while i < last {
-        let s = carry_out(current, memory, part[i]);
+        if room <= i {
+            return Passed {
+                number: OUT_OF_CODE,
+                at: i,
+                registers: current,
+            };
+        }
+        let e = effect_of(&current, part[i]);
+        let s = carry_out(current, memory, e);
         let number = s.number;
         let next = s.registers;
         if number != 0 {
@@ -243,20 +303,34 @@ struct Ended {
 }
 
 // A block, whose code is one part of the code table that starts at its first instruction.
-fn run_block(part: &[u32], registers: [u32; 8], memory: &mut [u32], b: u32, count: u32) -> Ended
+fn run_block(
+    part: &[u32],
+    room: usize,
+    registers: [u32; 8],
+    memory: &mut [u32],
+    b: u32,
+    count: u32,
+) -> Ended
     requires { ⌜ (1 ≤ length (now part)) × (b < 4294967295) ⌝ }
-    ensures steps { λ r. ⌜ ((P : Routine) (f n : ℕ) → P .count ≡ count → Covers P b (now (part .entry))
+    ensures steps { λ r. ⌜ ((P : Routine) (f n : ℕ) → P .count ≡ count → Covers P b (now (part .entry)) room
         → exitOf (r .exit) (at b (r .at) (r .registers) (now (memory .exit)) f (n + r .at))
         ≡ steps P (P .long b) (at b 0 registers (now (memory .entry)) f n)) ⌝ }
     ensures place { λ r. ⌜ r .at < length (now (part .entry)) ⌝ }
 {
-    let p = body(part, registers, memory);
+    let p = body(part, room, registers, memory);
     let number = p.number;
     let at = p.at;
     let next = p.registers;
     if number != 0 {
         return Ended {
             exit: Exit::No(number),
+            at,
+            registers: next,
+        };
+    }
+    if room <= at {
+        return Ended {
+            exit: Exit::No(OUT_OF_CODE),
             at,
             registers: next,
         };
@@ -328,7 +402,8 @@ fn run_blocks(
         let k = b as usize;
         let first = starts[k] as usize;
         let end = starts[k + 1] as usize;
-        let e = run_block(&code[first..end], current, memory, b, count);
+        let room = code.len() - first;
+        let e = run_block(&code[first..end], room, current, memory, b, count);
         let index = (first + e.at) as u32;
         let exit = e.exit;
         current = e.registers;

@@ -7,18 +7,18 @@ use lib.ListN.{length}
 use Rattle.model.specs.Table.{Routine}
 use Rattle.model.specs.Machine.{steps}
 use Rattle.machine.specs.Answer.{at, Covers}
-use Rattle.machine.proofs.Blocks.{body-on, body-stops, body-end}
+use Rattle.machine.proofs.Blocks.{body-past, body-on, body-stops, body-end}
 use Rattle.machine.proofs.body.Statement.{statement}
 use Rattle.machine.proofs.body.Tie as tie
 
 abbrev Inv-loop : tie.InvT-loop
-Inv-loop part memory₀ last current₀ i₀ memory current i =
-    ((P : Routine) (b f n : ℕ) → Covers P b part → steps P (length part - 1) (at b 0 current₀ memory₀ f n) ≡ steps P (length part - 1 - i) (at b i current memory f (n + i)))
+Inv-loop part room memory₀ last current₀ i₀ memory current i =
+    ((P : Routine) (b f n : ℕ) → Covers P b part room → steps P (length part - 1) (at b 0 current₀ memory₀ f n) ≡ steps P (length part - 1 - i) (at b i current memory f (n + i)))
     × (i ≤ length part - 1)
     × (length memory ≡ length memory₀)
 
 abbrev μ-loop : tie.MeasureT-loop
-μ-loop part memory₀ last current₀ i₀ memory current i = length part - i
+μ-loop part room memory₀ last current₀ i₀ memory current i = length part - i
 
 sub-last : tie.Need-sub-last Inv-loop μ-loop
 sub-last c = omega arith
@@ -26,24 +26,40 @@ sub-last c = omega arith
 loop-holds : tie.Need-loop-holds Inv-loop μ-loop
 loop-holds c = (λ P b f n C. rw (sub-zero, add-zero), omega arith, refl)
 
-mul-carry-out : tie.Need-mul-carry-out Inv-loop μ-loop
-mul-carry-out c = omega arith
+same-length : tie.Need-same-length Inv-loop μ-loop
+same-length c = c .before .before .loop .inv .2
 
-shared-slice-read-carry-out : tie.Need-shared-slice-read-carry-out Inv-loop μ-loop
-shared-slice-read-carry-out c = omega arith
+returns : tie.Need-returns Inv-loop μ-loop
+returns c =
+    let l = c .before .before .loop in (
+      λ P b f n C. body-past P _ _ b f C (l .i) (n + l .i) _ _ (omega arith) (omega arith) ∙ sym (l .inv .0 P b f n C),
+      (omega arith, λ z. omega arith),
+    )
+
+mul-effect-of : tie.Need-mul-effect-of Inv-loop μ-loop
+mul-effect-of c = omega arith
+
+shared-slice-read-effect-of : tie.Need-shared-slice-read-effect-of Inv-loop μ-loop
+shared-slice-read-effect-of c = omega arith
+
+effect-of-requires : tie.Need-effect-of-requires Inv-loop μ-loop
+effect-of-requires c κs = tt
 
 carry-out-requires : tie.Need-carry-out-requires Inv-loop μ-loop
 carry-out-requires c κs = tt
 
-same-length : tie.Need-same-length Inv-loop μ-loop
-same-length c = c .before .before .before .before .carry-out .kept .1 .0 ∙ c .before .before .before .before .before .before .before .before .loop .inv .2
+same-length-2 : tie.Need-same-length-2 Inv-loop μ-loop
+same-length-2 c = c .before .before .before .before .carry-out .kept .1 .0 ∙ c .before .before .before .before .before .before .before .before .before .before .before .loop .inv .2
 
-returns : tie.Need-returns Inv-loop μ-loop
-returns c =
+returns-2 : tie.Need-returns-2 Inv-loop μ-loop
+returns-2 c =
     let q = c .before .before .before .before .carry-out in
-    let l = c .before .before .before .before .before .before .before .before .loop in (
-      λ P b f n C. body-stops P _ b f C n _ _ _ _ _ _ (omega arith) (q .ensures P b (l .i) f (n + l .i) (λ e. omega (arith, C .long))) (c .if1 .taken) ∙ sym (l .inv .0 P b f n C),
-      (omega arith, λ z. absurd (c .if1 .taken z)),
+    let e = c .before .before .before .before .before .before .effect-of in
+    let l = c .before .before .before .before .before .before .before .before .before .before .before .loop in (
+      λ P b f n C.
+          body-stops P _ _ b f C n _ _ _ _ _ _ (omega arith) (omega arith)
+          (q .ensures b (l .i) f (n + l .i) ∙ e .ensures P b (l .i) f (n + l .i) _ (λ z. omega (arith, C .long))) (c .if2 .taken) ∙ sym (l .inv .0 P b f n C),
+      (omega arith, λ z. absurd (c .if2 .taken z)),
     )
 
 add-i : tie.Need-add-i Inv-loop μ-loop
@@ -55,19 +71,22 @@ loop-less c = omega arith
 loop-again : tie.Need-loop-again Inv-loop μ-loop
 loop-again c =
     let q = c .before .before .before .before .carry-out in
-    let l = c .before .before .before .before .before .before .before .before .loop in (
-      λ P b f n C. l .inv .0 P b f n C ∙ body-on P _ b f C n _ _ _ _ _ _ (omega arith) (q .ensures P b (l .i) f (n + l .i) (λ e. omega (arith, C .long))) (c .if1 .left),
+    let e = c .before .before .before .before .before .before .effect-of in
+    let l = c .before .before .before .before .before .before .before .before .before .before .before .loop in (
+      λ P b f n C.
+          l .inv .0 P b f n C ∙ body-on P _ _ b f C n _ _ _ _ _ _ (omega arith) (omega arith)
+          (q .ensures b (l .i) f (n + l .i) ∙ e .ensures P b (l .i) f (n + l .i) _ (λ z. omega (arith, C .long))) (c .if2 .left),
       omega arith,
       q .kept .1 .0 ∙ l .inv .2,
     )
 
-same-length-2 : tie.Need-same-length-2 Inv-loop μ-loop
-same-length-2 c = c .before .loop .inv .2
+same-length-3 : tie.Need-same-length-3 Inv-loop μ-loop
+same-length-3 c = c .before .loop .inv .2
 
-returns-2 : tie.Need-returns-2 Inv-loop μ-loop
-returns-2 c =
+returns-3 : tie.Need-returns-3 Inv-loop μ-loop
+returns-3 c =
     let l = c .before .loop in (
-      λ P b f n C. body-end P _ b f C (l .i) (n + l .i) _ _ (omega arith) ∙ sym (l .inv .0 P b f n C),
+      λ P b f n C. body-end P _ _ b f C (l .i) (n + l .i) _ _ (omega arith) ∙ sym (l .inv .0 P b f n C),
       (omega arith, λ z. omega arith),
     )
 
@@ -79,13 +98,16 @@ body-spec =
     μ-loop
     sub-last
     loop-holds
-    mul-carry-out
-    shared-slice-read-carry-out
-    carry-out-requires
     same-length
     returns
+    mul-effect-of
+    shared-slice-read-effect-of
+    effect-of-requires
+    carry-out-requires
+    same-length-2
+    returns-2
     add-i
     loop-less
     loop-again
-    same-length-2
-    returns-2)
+    same-length-3
+    returns-3)

@@ -48,7 +48,7 @@ part c = take (getD (starts c) (block c + 1) 0 - getD (starts c) (block c) 0) (d
 starts-at : (c : tie.In-loop Inv-loop μ-loop) (k : ℕ) → k ≤ rows (blocks c) → getD (starts c) k 0 ≡ startOf (blocks c) k
 starts-at c = c .before .before .before .before .before .pre .4
 
-covered : (c : tie.In-loop Inv-loop μ-loop) → Covers (routine c) (block c) (part c)
+covered : (c : tie.In-loop Inv-loop μ-loop) → Covers (routine c) (block c) (part c) (length (code c) - getD (starts c) (block c) 0)
 covered c = covers _ _ (c .before .before .before .before .before .pre .0) _ _ _ (omega arith) (starts-at c (block c) (omega arith)) (starts-at c (block c + 1) (omega arith))
 
 -- where the block starts and ends, and how long it is
@@ -77,7 +77,7 @@ here c = c .before .before .before .before .before
 
 -- what the block came to
 block-ran : (c : tie.After-run-block Inv-loop μ-loop)
-    → exitOf (c .run-block .result .exit) (at (block (here c)) (c .run-block .result .at) (c .run-block .result .registers) (c .run-block .last .1 .1 .0) (here c .before .loop .finished) (0 + c .run-block .result .at))
+    → exitOf (c .run-block .result .exit) (at (block (here c)) (c .run-block .result .at) (c .run-block .result .registers) (c .run-block .last .1 .1 .1 .0) (here c .before .loop .finished) (0 + c .run-block .result .at))
     ≡ steps (routine (here c)) (routine (here c) .long (block (here c))) (at (block (here c)) 0 (here c .before .loop .current) (here c .before .loop .memory) (here c .before .loop .finished) 0)
 block-ran c = c .run-block .ensures .0 _ _ 0 (routine-count _ _) (covered (here c))
 
@@ -113,6 +113,9 @@ element-copy-out-end c = omega arith
 cast-end : tie.Need-cast-end Inv-loop μ-loop
 cast-end c = omega (arith, placed (c .before .before))
 
+sub-room : tie.Need-sub-room Inv-loop μ-loop
+sub-room c = omega (arith, placed (c .before .before))
+
 mul-run-block : tie.Need-mul-run-block Inv-loop μ-loop
 mul-run-block c = omega (arith, placed (c .before .before))
 
@@ -147,7 +150,7 @@ answer-requires : tie.Need-answer-requires Inv-loop μ-loop
 answer-requires c κs = tt
 
 same-length : tie.Need-same-length Inv-loop μ-loop
-same-length c = c .before .before .before .before .before .before .before .run-block .kept .1 .1 .0 ∙ c .before .before .before .before .before .before .before .before .before .before .before .before .before .loop .inv .3
+same-length c = c .before .before .before .before .before .before .before .run-block .kept .1 .1 .1 .0 ∙ c .before .before .before .before .before .before .before .before .before .before .before .before .before .loop .inv .3
 
 returns : tie.Need-returns Inv-loop μ-loop
 returns c =
@@ -166,7 +169,7 @@ answer-requires-2 : tie.Need-answer-requires-2 Inv-loop μ-loop
 answer-requires-2 c κs = tt
 
 same-length-2 : tie.Need-same-length-2 Inv-loop μ-loop
-same-length-2 c = c .before .before .before .before .before .before .before .before .run-block .kept .1 .1 .0 ∙ c .before .before .before .before .before .before .before .before .before .before .before .before .before .before .loop .inv .3
+same-length-2 c = c .before .before .before .before .before .before .before .before .run-block .kept .1 .1 .1 .0 ∙ c .before .before .before .before .before .before .before .before .before .before .before .before .before .before .loop .inv .3
 
 returns-2 : tie.Need-returns-2 Inv-loop μ-loop
 returns-2 c =
@@ -192,7 +195,7 @@ loop-again c =
       l .inv .0 ∙ run-on (routine i) (i .before .before .before .before .before .args .budget) (l .finished) (l .b) (k .run-block .result .at) _ _ _ _ _ (omega arith) _ (block-ran k) _ (c .before .exit .given .1),
       omega arith,
       leads-on _ _ (i .before .before .before .before .before .pre .0) _ (l .b) _ _ _ _ _ _ _ _ (omega arith) _ (block-ran k) _ (c .before .exit .given .1),
-      k .run-block .kept .1 .1 .0 ∙ l .inv .3,
+      k .run-block .kept .1 .1 .1 .0 ∙ l .inv .3,
     )
 
 cast-answer : tie.Need-cast-answer Inv-loop μ-loop
@@ -233,6 +236,7 @@ run-blocks-spec =
     mul-end
     element-copy-out-end
     cast-end
+    sub-room
     mul-run-block
     sub-run-block
     part-run-block-start
