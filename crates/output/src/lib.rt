@@ -62,8 +62,7 @@ pub fn line_end(out: &mut [u8; 65536], n: usize) -> usize {
 pub fn verdict(out: &mut [u8; 65536], n: usize, v: Verdict) -> usize {
     let a = number(out, n, v.number as u64);
     let b = field(out, a, v.first as u64);
-    let c = field(out, b, v.second as u64);
-    line_end(out, c)
+    field(out, b, v.second as u64)
 }
 
 fn wide(x: u32) -> u64 {
@@ -90,14 +89,11 @@ pub fn run_answer(out: &mut [u8; 65536], n: usize, r: RunAnswer, memory: &[u32])
     let registers = r.registers;
     let e = words(out, d, &registers);
     let f = field(out, e, memory.len() as u64);
-    let g = words(out, f, memory);
-    line_end(out, g)
+    words(out, f, memory)
 }
 
 // malformed STOP
 pub fn malformed(out: &mut [u8; 65536], n: usize, stop: u64) -> usize {
-    let word = [b'm', b'a', b'l', b'f', b'o', b'r', b'm', b'e', b'd'];
-    let a = text(out, n, &word);
-    let b = field(out, a, stop);
-    line_end(out, b)
+    let a = text(out, n, b"malformed");
+    field(out, a, stop)
 }

@@ -9,7 +9,8 @@ use model::Verdict;
 fn say(out: &mut [u8; 65536], n: usize, words: &[u8], v: Verdict) -> usize {
     let a = output::text(out, n, words);
     let b = output::put(out, a, b' ');
-    output::verdict(out, b, v)
+    let c = output::verdict(out, b, v);
+    output::line_end(out, c)
 }
 
 // The verdict on one routine.

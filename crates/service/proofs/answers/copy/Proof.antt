@@ -4,8 +4,8 @@ use native.Mathlib.Omega.{arith}
 use borrow.Author.Needs.{needs}
 use lib.ListN.{length, length-set}
 use mathlib.Core.Path.{_≡_, refl}
-use Rattle.ramdulsi.proofs.answers.copy.Statement.{statement}
-use Rattle.ramdulsi.proofs.answers.copy.Tie as tie
+use Rattle.service.proofs.answers.copy.Statement.{statement}
+use Rattle.service.proofs.answers.copy.Tie as tie
 
 abbrev Inv-loop : tie.InvT-loop
 Inv-loop from to₀ i₀ to i = length to ≡ length to₀

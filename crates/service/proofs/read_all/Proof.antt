@@ -3,14 +3,14 @@ use Prim.Native.Nat.{_-_}
 use native.Mathlib.Omega.{arith}
 use borrow.Author.Needs.{needs}
 use lib.ListN.{length}
-use Rattle.ramdulsi.proofs.read_all.Statement.{statement}
-use Rattle.ramdulsi.proofs.read_all.Tie as tie
+use Rattle.service.proofs.read_all.Statement.{statement}
+use Rattle.service.proofs.read_all.Tie as tie
 
 abbrev Inv-loop : tie.InvT-loop
-Inv-loop words₀ ends₀ numbers₀ out₀ q₀ turns₀ words ends numbers out q turns = Unit {0}
+Inv-loop s words₀ ends₀ numbers₀ out₀ q₀ turns₀ words ends numbers out q turns = Unit {0}
 
 abbrev μ-loop : tie.MeasureT-loop
-μ-loop words₀ ends₀ numbers₀ out₀ q₀ turns₀ words ends numbers out q turns = turns
+μ-loop s words₀ ends₀ numbers₀ out₀ q₀ turns₀ words ends numbers out q turns = turns
 
 loop-holds : tie.Need-loop-holds Inv-loop μ-loop
 loop-holds c = tt

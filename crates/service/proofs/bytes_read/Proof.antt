@@ -3,14 +3,14 @@ use Prim.Native.Nat.{_-_}
 use native.Mathlib.Omega.{arith}
 use borrow.Author.Needs.{needs}
 use lib.ListN.{length}
-use Rattle.ramdulsi.proofs.bytes_read.Statement.{statement}
-use Rattle.ramdulsi.proofs.bytes_read.Tie as tie
+use Rattle.service.proofs.bytes_read.Statement.{statement}
+use Rattle.service.proofs.bytes_read.Tie as tie
 
 abbrev Inv-loop : tie.InvT-loop
-Inv-loop bytes words₀ ends₀ numbers₀ out₀ q₀ i₀ words ends numbers out q i = Unit {0}
+Inv-loop s bytes words₀ ends₀ numbers₀ out₀ q₀ i₀ words ends numbers out q i = Unit {0}
 
 abbrev μ-loop : tie.MeasureT-loop
-μ-loop bytes words₀ ends₀ numbers₀ out₀ q₀ i₀ words ends numbers out q i = length bytes - i
+μ-loop s bytes words₀ ends₀ numbers₀ out₀ q₀ i₀ words ends numbers out q i = length bytes - i
 
 loop-holds : tie.Need-loop-holds Inv-loop μ-loop
 loop-holds c = tt

@@ -3,8 +3,8 @@ use mathlib.Core.Path.{sym}
 use native.Mathlib.Omega.{arith}
 use lib.Seq.{length-take-le}
 use borrow.Author.Needs.{needs}
-use Rattle.ramdulsi.proofs.answers.run_on.Statement.{statement}
-use Rattle.ramdulsi.proofs.answers.run_on.Tie as tie
+use Rattle.service.proofs.answers.run_on.Statement.{statement}
+use Rattle.service.proofs.answers.run_on.Tie as tie
 
 copy-requires : tie.Need-copy-requires
 copy-requires c κs = search needs
@@ -36,8 +36,8 @@ element-copy-out-run c = search needs
 run-requires : tie.Need-run-requires
 run-requires c κs = search needs
 
-run-answer-requires : tie.Need-run-answer-requires
-run-answer-requires c κs = search needs
+ran-requires : tie.Need-ran-requires
+ran-requires c κs = search needs
 
 same-length-2 : tie.Need-same-length-2
 same-length-2 c = search needs
@@ -59,6 +59,6 @@ run-on-spec =
     registers-requires
     element-copy-out-run
     run-requires
-    run-answer-requires
+    ran-requires
     same-length-2
     returns-2)

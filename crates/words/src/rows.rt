@@ -1,0 +1,375 @@
+// The rows. A row is its columns in order, with bars between them: name, meaning, usual cause, remedy, place.
+use super::Asked;
+
+fn letter(out: &mut [u8; 65536], n: usize, a: Asked, byte: u8) -> usize {
+    if a.answered {
+        if byte == b'A' {
+            return output::number(out, n, a.first);
+        }
+        if byte == b'B' {
+            return output::number(out, n, a.second);
+        }
+    }
+    output::put(out, n, byte)
+}
+
+// The column asked of a row.
+fn column(out: &mut [u8; 65536], n: usize, a: Asked, row: &[u8]) -> usize {
+    let mut at = n;
+    let mut before = a.column;
+    let mut i = 0;
+    while i < row.len() {
+        let byte = row[i];
+        if byte == b'|' {
+            if before == 0 {
+                return at;
+            }
+            before -= 1;
+        } else if before == 0 {
+            at = letter(out, at, a, byte);
+        }
+        i += 1;
+    }
+    at
+}
+
+// Numbers 0 to 6: the tables.
+pub fn tables(out: &mut [u8; 65536], n: usize, row: u32, a: Asked) -> usize {
+    if row == 0 {
+        return column(
+            out,
+            n,
+            a,
+            b"passed|\
+              no question of the check has a no|\
+              tables, memory and registers are as they should be|\
+              nothing to mend: make the next check, or run|\
+              0, 0",
+        );
+    }
+    if row == 1 {
+        return column(
+            out,
+            n,
+            a,
+            b"table length|\
+              a table is not whole rows, or too short or too long: types are 1 to 64 rows of 9 words, tags 0 to 64 words, \
+              blocks 1 to 256 rows of 9 words, code 1 to 8,192 words|\
+              a row cut short, or an empty table|\
+              hand in whole rows, as many as the table may have|\
+              table A (0 types, 1 tags, 2 blocks, 3 code)",
+        );
+    }
+    if row == 2 {
+        return column(
+            out,
+            n,
+            a,
+            b"field count|\
+              a record type has no field, or more than 8|\
+              a row of zeros kept for a type to come|\
+              give the type 1 to 8 fields, or take its row out|\
+              type row A",
+        );
+    }
+    if row == 3 {
+        return column(
+            out,
+            n,
+            a,
+            b"field type|\
+              a field's type word has an unknown kind, a record type that is not in the table, a dependency that is no field \
+              of the record, or something in a part that its kind does not use; or a word past the last field is not 0|\
+              a type word taken from an annotation, where 0 to 7 are registers|\
+              name a field by its number, 0 to the field count less 1, and a constant by 8 more than it is; let all else be \
+              0|\
+              type row A",
+        );
+    }
+    if row == 4 {
+        return column(
+            out,
+            n,
+            a,
+            b"tag|\
+              a tag stands for a record type that is not in the table|\
+              a type taken out, its tag kept|\
+              let each tag name a row of the type table|\
+              tag A",
+        );
+    }
+    if row == 5 {
+        return column(
+            out,
+            n,
+            a,
+            b"block length|\
+              a block is not 1 to 32 instructions long, or ends past the code; or code is left over after the last block, \
+              and the row is the block count|\
+              an instruction added to the code and not to its block's length|\
+              let the lengths add up to the code's length, and split a block that is too long|\
+              block row A",
+        );
+    }
+    if row == 6 {
+        return column(
+            out,
+            n,
+            a,
+            b"annotation|\
+              a type word of a block's annotation has an unknown kind, a record type that is not in the table, or something \
+              in a part that its kind does not use|\
+              record types counted from 1, or a part left from another kind|\
+              write the word anew: kind in bits 31 to 24, record type in 23 to 16, dependencies in 15 to 8 and 7 to 0, and 0 \
+              where the kind has none|\
+              block row A",
+        );
+    }
+    n
+}
+
+// Numbers 7 to 15: the code.
+pub fn code(out: &mut [u8; 65536], n: usize, row: u32, a: Asked) -> usize {
+    if row == 7 {
+        return column(
+            out,
+            n,
+            a,
+            b"instruction|\
+              the opcode is unknown, a part that it does not use is not 0, a register is not 0 to 7, or a divisor is 0|\
+              a part in the wrong bits, or a word in the code that is no instruction|\
+              write the instruction anew: opcode in bits 31 to 24, a in 23 to 20, b in 19 to 16, c in 15 to 0, and 0 in what \
+              the opcode does not use|\
+              block A, code index B",
+        );
+    }
+    if row == 8 {
+        return column(
+            out,
+            n,
+            a,
+            b"block end|\
+              a halt, jump or branch stands inside a block, or a block's last instruction is none of them|\
+              a branch in the middle of a block, or a block length that is one off|\
+              end the block at the branch, and let another begin after it|\
+              block A, code index B",
+        );
+    }
+    if row == 9 {
+        return column(
+            out,
+            n,
+            a,
+            b"target|\
+              the block that a jump or branch goes to does not exist, or the block after a branch does not|\
+              a branch in the last block, or blocks counted from 1|\
+              add the block that is missing, or name one below the block count|\
+              block A, code index B",
+        );
+    }
+    if row == 10 {
+        return column(
+            out,
+            n,
+            a,
+            b"reference|\
+              the base of a load or store is not known to be a reference|\
+              a pointer that was not tested for 0, or whose tag was not tested|\
+              test it by opcode 11, and declare what the test shows in the annotation of the block that follows|\
+              block A, code index B",
+        );
+    }
+    if row == 11 {
+        return column(
+            out,
+            n,
+            a,
+            b"offset|\
+              the offset of a load or store is not below the record's size|\
+              a field of another record type, or fields counted from 1|\
+              use an offset below the field count of the base's record type|\
+              block A, code index B",
+        );
+    }
+    if row == 12 {
+        return column(
+            out,
+            n,
+            a,
+            b"other record|\
+              a record is half written, and the base of a load or store is not the very value that it was opened through|\
+              a second record read between two stores to the first|\
+              load before the first store, or after the record is whole|\
+              block A, code index B",
+        );
+    }
+    if row == 13 {
+        return column(
+            out,
+            n,
+            a,
+            b"open record|\
+              a record is half written at a block's end|\
+              a plot's stage set in one block, its pointer in the next|\
+              make all stores of one change in one block|\
+              block A, code index B",
+        );
+    }
+    if row == 14 {
+        return column(
+            out,
+            n,
+            a,
+            b"taken edge|\
+              the registers are not known to meet the annotation of the block that a jump or a taken branch goes to|\
+              an annotation that asks for more than was tested|\
+              test it before the jump, or ask for less|\
+              block A, code index B",
+        );
+    }
+    if row == 15 {
+        return column(
+            out,
+            n,
+            a,
+            b"untaken edge|\
+              the registers are not known to meet the annotation of the block after a branch that is not taken|\
+              an annotation that asks for what holds on the taken edge alone|\
+              exchange the two blocks, or ask for less|\
+              block A, code index B",
+        );
+    }
+    n
+}
+
+// Numbers 16 to 22: where a run starts, memory, registers.
+pub fn states(out: &mut [u8; 65536], n: usize, row: u32, a: Asked) -> usize {
+    if row == 16 {
+        return column(
+            out,
+            n,
+            a,
+            b"start block|\
+              the block to start at does not exist|\
+              blocks counted from 1, or the block of another routine|\
+              name a block below the block count|\
+              0, 0",
+        );
+    }
+    if row == 17 {
+        return column(
+            out,
+            n,
+            a,
+            b"memory length|\
+              memory is not 1 to 16,384 words long|\
+              no memory handed in, or a whole database in place of a part of it|\
+              hand in 1 to 16,384 words|\
+              0, 0",
+        );
+    }
+    if row == 18 {
+        return column(
+            out,
+            n,
+            a,
+            b"address|\
+              a load or store of a run goes past memory|\
+              a run of a routine, with memory or registers, that the checks have not passed|\
+              check routine, memory and registers first: a run that they allow does not come here|\
+              block A, code index B",
+        );
+    }
+    if row == 19 {
+        return column(
+            out,
+            n,
+            a,
+            b"allocation|\
+              the list is not whole rows of 2 words, or is longer than 4,096 rows; or a record has a type that is not in the \
+              table, starts at 0 or before the end of the record before it, or ends past memory|\
+              rows that are not in the order of their starts|\
+              sort the rows by start, let no two records overlap, and leave word 0 free|\
+              allocation row A",
+        );
+    }
+    if row == 20 {
+        return column(
+            out,
+            n,
+            a,
+            b"field|\
+              a word of a record does not meet its field's type|\
+              a record whose fields were never set, or memory written by other than checked routines|\
+              set the field right before any routine runs|\
+              allocation row A, field B",
+        );
+    }
+    if row == 21 {
+        return column(
+            out,
+            n,
+            a,
+            b"register|\
+              a register does not meet the annotation of the block to start at|\
+              a pointer to a record of another type, or a register left at 0|\
+              hand in what the annotation asks for|\
+              register A",
+        );
+    }
+    if row == 22 {
+        return column(
+            out,
+            n,
+            a,
+            b"code index|\
+              a run's code index is past the code|\
+              none: numbers 5, 8, 9 and 16 keep a run inside its code|\
+              nothing to mend: no request is answered so|\
+              block A, code index B",
+        );
+    }
+    n
+}
+
+// A run that did not stop at a question, and a line without one.
+pub fn others(out: &mut [u8; 65536], n: usize, row: u32, a: Asked) -> usize {
+    if row == 40 {
+        return column(
+            out,
+            n,
+            a,
+            b"paused|\
+              the budget of blocks is finished, and the routine has not halted|\
+              a turn that is shorter than the routine|\
+              nothing to mend: go on with the block, registers and memory returned|\
+              block A, code index B",
+        );
+    }
+    if row == super::HALTED {
+        return column(
+            out,
+            n,
+            a,
+            b"halted|\
+              the run carried out a halt|\
+              the routine has come to its end|\
+              nothing to mend: the routine gets no more turns|\
+              block A, code index B",
+        );
+    }
+    if row == super::MALFORMED {
+        return column(
+            out,
+            n,
+            a,
+            b"no request|\
+              the line is none of the four requests: another first word, a number that is too large or no number, numbers missing \
+              or left over, or tables of more than 40,960 words together|\
+              a count that differs from the number of words after it|\
+              mend the line at this byte; the lines after it are answered all the same|\
+              byte A of the line, counted from 0",
+        );
+    }
+    n
+}
