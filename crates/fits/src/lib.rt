@@ -14,7 +14,7 @@ ghost use Rattle.model.specs.Reading.{typed, knownEqual, tagOf, beyond, knownTa
 ghost use Rattle.model.specs.Reading.{isRef, isMaybe, isTagged, isPresent, isSpan, fits, rowFits};
 ghost use Rattle.model.specs.Reading.{firstTag, referenceOf};
 ghost use Rattle.fits.specs.Numbers.{framesOf, valuesOf, depAt, siblingOf, namedOf};
-ghost use Rattle.fits.specs.Numbers.{meant, listed, contained, shared, tagOrBeyond};
+ghost use Rattle.fits.specs.Numbers.{meant, listed, contained, shared, placeFits, tagOrBeyond};
 use model::Reference;
 
 // Kinds of type words. From Run on they are spans, of rank kind minus Run.
@@ -549,6 +549,34 @@ fn value_fits(
     is_span(words, frames, constants, tested, equal, v, w, names)
 }
 
+// Whether the name at place k fits its type word of the row.
+pub fn field_fits(
+    tags: &[u32],
+    words: &[u32; 256],
+    frames: &[u8; 32],
+    constants: &[u32; 32],
+    tested: u32,
+    equal: u32,
+    k: usize,
+    row: &[u32],
+    names: &[u8; 8],
+) -> bool
+    requires { ⌜ (k < 8) × (k < length (now row)) ⌝ }
+    ensures { λ r. ⌜ ((types : List ℕ) → r ≡ placeFits (tablesOf types (now (tags .entry))) (valuesOf (now (words .entry)) (now (frames .entry)) (now (constants .entry)) tested equal) (now (row .entry)) (now (names .entry)) k) ⌝ }
+{
+    value_fits(
+        tags,
+        words,
+        frames,
+        constants,
+        tested,
+        equal,
+        names[k],
+        row[k],
+        names,
+    )
+}
+
 // Whether each of the first n of names fits its type word of the row: a record that closes, an edge that meets.
 pub fn row_fits(
     tags: &[u32],
@@ -566,17 +594,7 @@ pub fn row_fits(
 {
     let mut i = 0;
     while i < n {
-        if !value_fits(
-            tags,
-            words,
-            frames,
-            constants,
-            tested,
-            equal,
-            names[i],
-            row[i],
-            names,
-        ) {
+        if !field_fits(tags, words, frames, constants, tested, equal, i, row, names) {
             return false;
         }
         i += 1;

@@ -23,7 +23,7 @@ use Rattle.model.proofs.Lists.{map-set, getD-past, upFrom-at, length-upFrom}
 use Rattle.table.proofs.Laws.{row-length, words-length, head-at, tables-size, tables-words}
 use Rattle.fits.specs.Numbers.{frameOf, framesOf, valuesOf}
 use Rattle.fits.proofs.Numbers.{frames-at, frames-set, byKind, type-any, type-ref, type-maybe, type-tagged, type-present, type-same, type-span}
-use Rattle.straight.specs.State.{viewOf, viewsOf, reading, questionOf, numbered, plainOf, touched}
+use Rattle.straight.specs.State.{viewOf, viewsOf, reading, questionOf, numbered, plainOf, loadAsk, storeAsk, touched}
 
 -- ---- names and type words
 
@@ -201,38 +201,66 @@ module _ (w a b c : ℕ) (ea : a ≡ aOf w) (eb : b ≡ bOf w) (ec : c ≡ cOf w
   unfolding plainOf
   plain-store e = rw (e, ← ea, ← eb, ← ec)
 
-module _ (types tags registers words frames constants views fields : List ℕ) (since base g v t c x n : ℕ) (row : List ℕ) (f : Bool)
-    (en : n ≡ headOf types t) (er : row ≡ wordsOf types t)
-    (ef : f ≡ rowFits (tablesOf types tags) (valuesOf words frames constants 0 0) n row (set fields c x)) where
+module _ (𝒯 : Tables) (place : Question → Refusal) (a v c : ℕ) (st : Reading) where
+  pub load-own : mayTouch 𝒯 st v ≡ true → (z : ℕ) → z ≡ 0 → numbered place z (putRegister st a (getD (st .fields) c 0)) ≡ loadAsk 𝒯 place a v c st
+  unfolding numbered loadAsk ask loaded
+  load-own m z ez = rw (ez, m)
+
+  pub load-other : mayTouch 𝒯 st v ≡ false → (z : ℕ) → z ≡ 12 → (st′ : Reading) → numbered place z st′ ≡ loadAsk 𝒯 place a v c st
+  unfolding numbered questionOf loadAsk ask
+  load-other m z ez st′ = rw (ez, m)
+
+module _ (𝒯 : Tables) (place : Question → Refusal) (g v t c x : ℕ) (st : Reading) where
+  pub store-other : mayTouch 𝒯 st v ≡ false → (z : ℕ) → z ≡ 12 → (st′ : Reading) → numbered place z st′ ≡ storeAsk 𝒯 place g v t c x st
+  unfolding numbered questionOf storeAsk ask
+  store-other m z ez st′ = rw (ez, m)
+
+  store-own : mayTouch 𝒯 st v ≡ true → (st′ : Reading) → st′ ≡ stored 𝒯 st g v t c x → numbered place 0 st′ ≡ storeAsk 𝒯 place g v t c x st
+  unfolding numbered storeAsk ask
+  store-own m st′ es = rw (m, es)
+
+module _ (types tags : List ℕ) (place : Question → Refusal) (registers words frames constants views fields : List ℕ) (since base g v t c x n : ℕ)
+    (m : mayTouch (tablesOf types tags) (reading registers words frames constants views fields since base) v ≡ true)
+    (row : List ℕ) (f : Bool) (en : n ≡ headOf types t) (er : row ≡ wordsOf types t)
+    (ef : f ≡ rowFits (tablesOf types tags) (valuesOf words frames constants 0 0) n row (set fields c x)) (fields′ : List ℕ) (e : fields′ ≡ set fields c x) where
+  abbrev st₀ : Reading
+  st₀ = reading registers words frames constants views fields since base
+
   abbrev past : Reading
-  past = stored (tablesOf types tags) (reading registers words frames constants views fields since base) g v t c x
+  past = stored (tablesOf types tags) st₀ g v t c x
 
-  pub store-closes : f ≡ true → reading registers words frames constants views (set fields c x) g 256 ≡ past
+  closes : f ≡ true → reading registers words frames constants views fields′ g 256 ≡ past
   unfolding stored
-  store-closes q = rw (tables-size types tags t, tables-words types tags t, ← en, ← er, ← ef, q)
+  closes q = rw (e, tables-size types tags t, tables-words types tags t, ← en, ← er, ← ef, q)
 
-  pub store-holds : f ≡ false → reading registers words frames constants views (set fields c x) since v ≡ past
+  holds : f ≡ false → reading registers words frames constants views fields′ since v ≡ past
   unfolding stored
-  store-holds q = rw (tables-size types tags t, tables-words types tags t, ← en, ← er, ← ef, q)
+  holds q = rw (e, tables-size types tags t, tables-words types tags t, ← en, ← er, ← ef, q)
+
+  pub store-closes : f ≡ true
+      → numbered place 0 (reading registers words frames constants views fields′ g 256) ≡ storeAsk (tablesOf types tags) place g v t c x st₀
+  store-closes q = store-own (tablesOf types tags) place g v t c x st₀ m _ (closes q)
+
+  pub store-holds : f ≡ false
+      → numbered place 0 (reading registers words frames constants views fields′ since v) ≡ storeAsk (tablesOf types tags) place g v t c x st₀
+  store-holds q = store-own (tablesOf types tags) place g v t c x st₀ m _ (holds q)
 
 module _ (𝒯 : Tables) (place : Question → Refusal) (g : ℕ) (loads : Bool) (a v t c : ℕ) (st : Reading) (n : ℕ) (en : n ≡ 𝒯 .size t) where
   pub touch-offset : n ≤ c → (z : ℕ) → z ≡ 11 → (st′ : Reading) → numbered place z st′ ≡ touched 𝒯 place g loads a v t c st
   unfolding numbered questionOf touched ask
   touch-offset q z ez st′ = rw (ez, ← en, le-ltb c n q)
 
-  module _ (q : c < n) where
-    pub touch-other : mayTouch 𝒯 st v ≡ false → (z : ℕ) → z ≡ 12 → (st′ : Reading) → numbered place z st′ ≡ touched 𝒯 place g loads a v t c st
-    unfolding numbered questionOf touched ask
-    touch-other m z ez st′ = rw (ez, ← en, lt-ltb c n q, m)
+  module _ (q : c < n) (st′ : Reading) (es : st′ ≡ look 𝒯 st g v t) (eb : st′ .base ≡ st .base) where
+    as-before : mayTouch 𝒯 st′ v ≡ mayTouch 𝒯 st v
+    as-before = ap (λ (b : ℕ). not (ltb b noBase) or eqb b v) eb
 
-    module _ (m : mayTouch 𝒯 st v ≡ true) (z : ℕ) (ez : z ≡ 0) (st′ : Reading) (es : st′ ≡ look 𝒯 st g v t) where
-      pub touch-load : loads ≡ true → numbered place z (putRegister st′ a (getD (st′ .fields) c 0)) ≡ touched 𝒯 place g loads a v t c st
-      unfolding numbered touched ask loaded
-      touch-load e = rw (ez, ← en, lt-ltb c n q, m, e, ← es)
+    pub touch-load : loads ≡ true → loadAsk 𝒯 place a v c st′ ≡ touched 𝒯 place g loads a v t c st
+    unfolding touched loadAsk ask
+    touch-load e = rw (as-before, ← en, lt-ltb c n q, e, ← es)
 
-      pub touch-store : loads ≡ false → (st″ : Reading) → st″ ≡ stored 𝒯 st′ g v t c (valueIn st a) → numbered place z st″ ≡ touched 𝒯 place g loads a v t c st
-      unfolding numbered touched ask
-      touch-store e st″ e″ = rw (ez, ← en, lt-ltb c n q, m, e, ← es, e″)
+    pub touch-store : loads ≡ false → storeAsk 𝒯 place g v t c (valueIn st a) st′ ≡ touched 𝒯 place g loads a v t c st
+    unfolding touched storeAsk ask
+    touch-store e = rw (as-before, ← en, lt-ltb c n q, e, ← es)
 
 module _ (𝒯 : Tables) (place : Question → Refusal) (g w : ℕ) (st : Reading) (a b c : ℕ) (ea : a ≡ aOf w) (eb : b ≡ bOf w) (ec : c ≡ cOf w)
     (l : 8 ≤ opcodeOf w) (h : opcodeOf w ≤ 9) where

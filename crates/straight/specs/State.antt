@@ -59,6 +59,17 @@ earlyAsk 𝒯 place g malformed st = refused (place q7)
 earlyAsk 𝒯 place g (plain x) st = readPlain 𝒯 place g x st
 earlyAsk 𝒯 place g (end e) st = refused (place q8)
 
+-- Q12 of a load and of a store through the value v, whose record's fields are at hand, and the reading after it
+unfoldable pub loadAsk : Tables → (Question → Refusal) → ℕ → ℕ → ℕ → Reading → Outcome Reading
+loadAsk 𝒯 place a v c st =
+    ask (mayTouch 𝒯 st v) (place q12) λ _.
+    ok (loaded st a c)
+
+unfoldable pub storeAsk : Tables → (Question → Refusal) → ℕ → ℕ → ℕ → ℕ → ℕ → Reading → Outcome Reading
+storeAsk 𝒯 place g v t c x st =
+    ask (mayTouch 𝒯 st v) (place q12) λ _.
+    ok (stored 𝒯 st g v t c x)
+
 -- Q11 and Q12 of an access to a record of type t through the value v, and the reading after it
 unfoldable pub touched : Tables → (Question → Refusal) → ℕ → Bool → ℕ → ℕ → ℕ → ℕ → Reading → Outcome Reading
 touched 𝒯 place g loads a v t c st =

@@ -13,9 +13,10 @@ ghost use Rattle.model.specs.Question.{_and_, _or_, Question, Refusal};
 ghost use Rattle.model.specs.Word.{opcodeOf, aOf, bOf};
 ghost use Rattle.model.specs.Table.{tablesOf, headOf};
 ghost use Rattle.model.specs.Machine.{decode};
-ghost use Rattle.model.specs.Reading.{laidAt, upFrom, steady, movedWord, look, stored};
+ghost use Rattle.model.specs.Reading.{laidAt, upFrom, steady, movedWord, look, rowFits};
 ghost use Rattle.model.specs.Check.{readPlain};
-ghost use Rattle.straight.specs.State.{reading, numbered, plainOf, touched, earlyAsk};
+ghost use Rattle.fits.specs.Numbers.{valuesOf};
+ghost use Rattle.straight.specs.State.{reading, numbered, plainOf, loadAsk, storeAsk, touched, earlyAsk};
 use model::Reference;
 
 // Numbers of the questions asked of code.
@@ -205,7 +206,54 @@ fn may_touch(base: u32, v: u8) -> bool
     base == (v as u32)
 }
 
-// A store of the value x at offset c of the record behind v, of type t and size n. It closes if each field fits its type.
+// Q12 of a load, and register a holds field c of the record behind v, whose fields are at hand.
+fn load(registers: &mut [u8; 8], fields: &[u8; 8], s: Progress, a: usize, v: u8, c: u32) -> Progress
+    requires { ⌜ (a < 8) × (c < 8) × (s .number ≡ 0) ⌝ }
+    ensures { λ r. ⌜ ((place : Question → Refusal) (types tags words frames constants views : List ℕ)
+        → numbered place (r .number) (reading (now (registers .exit)) words frames constants views (now (fields .entry)) (r .since) (r .base))
+        ≡ loadAsk (tablesOf types tags) place a v c
+        (reading (now (registers .entry)) words frames constants views (now (fields .entry)) (s .since) (s .base)))
+        × (r .number ≤ 12) ⌝ }
+{
+    if may_touch(s.base, v) {
+        registers[a] = fields[c as usize];
+        return s;
+    }
+    refused(OTHER_RECORD, s)
+}
+
+// Field c of the record at hand is the value x: whether each of its n fields fits its type word of the row.
+fn put(
+    tags: &[u32],
+    words: &[u32; 256],
+    frames: &[u8; 32],
+    constants: &[u32; 32],
+    fields: &mut [u8; 8],
+    n: u32,
+    c: u32,
+    x: u8,
+    row: &[u32],
+) -> bool
+    requires { ⌜ (c < n) × (n ≤ 8) × (n ≤ length (now row)) ⌝ }
+    ensures { λ r. ⌜ (now (fields .exit) ≡ set (now (fields .entry)) c x)
+        × ((types : List ℕ) → r ≡ rowFits (tablesOf types (now (tags .entry))) (valuesOf (now (words .entry)) (now (frames .entry)) (now (constants .entry)) 0 0)
+        n (now (row .entry)) (set (now (fields .entry)) c x)) ⌝ }
+{
+    fields[c as usize] = x;
+    fits::row_fits(
+        tags,
+        words,
+        frames,
+        constants,
+        0,
+        0,
+        n as usize,
+        row,
+        fields,
+    )
+}
+
+// Q12 of a store, and field c of the record behind v, of type t and size n, is the value x. It closes if each field fits its type.
 fn store(
     types: &[u32],
     tags: &[u32],
@@ -213,7 +261,7 @@ fn store(
     frames: &[u8; 32],
     constants: &[u32; 32],
     fields: &mut [u8; 8],
-    since: u32,
+    s: Progress,
     v: u8,
     t: u32,
     n: u32,
@@ -222,32 +270,25 @@ fn store(
     g: usize,
 ) -> Progress
     requires { ⌜ (n ≡ headOf (now types) t) × (n ≤ 8) × (c < n) × (t * 9 + 9 ≤ length (now types)) × (g < 32) ⌝ }
-    ensures { λ r. ⌜ ((registers views : List ℕ) (base : ℕ)
-        → reading registers (now (words .entry)) (now (frames .entry)) (now (constants .entry)) views (now (fields .exit)) (r .since) (r .base)
-        ≡ stored (tablesOf (now (types .entry)) (now (tags .entry)))
-        (reading registers (now (words .entry)) (now (frames .entry)) (now (constants .entry)) views (now (fields .entry)) since base)
-        g v t c x)
-        × (r .number ≡ 0) ⌝ }
+    ensures { λ r. ⌜ ((place : Question → Refusal) (registers views : List ℕ)
+        → numbered place (r .number) (reading registers (now (words .entry)) (now (frames .entry)) (now (constants .entry)) views (now (fields .exit)) (r .since) (r .base))
+        ≡ storeAsk (tablesOf (now (types .entry)) (now (tags .entry))) place g v t c x
+        (reading registers (now (words .entry)) (now (frames .entry)) (now (constants .entry)) views (now (fields .entry)) (s .since) (s .base)))
+        × (r .number ≤ 12) ⌝ }
 {
-    fields[c as usize] = x;
+    if !may_touch(s.base, v) {
+        return refused(OTHER_RECORD, s);
+    }
     let own = table::row(types, t as usize);
-    if fits::row_fits(
-        tags,
-        words,
-        frames,
-        constants,
-        0,
-        0,
-        n as usize,
-        &own[1..],
-        fields,
-    ) {
+    let born = g as u32;
+    if put(tags, words, frames, constants, fields, n, c, x, &own[1..]) {
         return Progress {
             number: 0,
-            since: g as u32,
+            since: born,
             base: NO_BASE,
         };
     }
+    let since = s.since;
     Progress {
         number: 0,
         since: since,
@@ -256,7 +297,7 @@ fn store(
 }
 
 // A load or a store of register a at offset c of the record behind v, of type t: Q11 and Q12. The size past the table is 0, so
-// that Q11 has a no there.
+// that Q11 has a no there. A look leaves an open record's fields at hand, so that it can come before Q12.
 fn touch(
     types: &[u32],
     tags: &[u32],
@@ -286,9 +327,6 @@ fn touch(
     if n <= c {
         return refused(OFFSET, s);
     }
-    if !may_touch(s.base, v) {
-        return refused(OTHER_RECORD, s);
-    }
     look(
         types,
         words,
@@ -303,8 +341,7 @@ fn touch(
         g,
     );
     if loads {
-        registers[a] = fields[c as usize];
-        return s;
+        return load(registers, fields, s, a, v, c);
     }
     let x = registers[a];
     store(
@@ -314,7 +351,7 @@ fn touch(
         frames,
         constants,
         fields,
-        s.since,
+        s,
         v,
         t,
         n,

@@ -8,7 +8,7 @@ use Rattle.model.specs.Table.{tablesOf}
 use Rattle.model.specs.Reading.{rowFits}
 use Rattle.table.proofs.Questions.{told-no, told-yes, every-on, every-stops, every-end}
 use Rattle.fits.specs.Numbers.{valuesOf, placeFits}
-use Rattle.fits.proofs.Answers.{row-is, place-is}
+use Rattle.fits.proofs.Answers.{row-is}
 use Rattle.fits.proofs.row_fits.Statement.{statement}
 use Rattle.fits.proofs.row_fits.Tie as tie
 
@@ -24,22 +24,13 @@ abbrev μ-loop : tie.MeasureT-loop
 loop-holds : tie.Need-loop-holds Inv-loop μ-loop
 loop-holds c = (λ types. row-is _ _ _ _ _, omega arith)
 
-element-copy-out-value-fits : tie.Need-element-copy-out-value-fits Inv-loop μ-loop
-element-copy-out-value-fits c = omega arith
-
-mul-value-fits : tie.Need-mul-value-fits Inv-loop μ-loop
-mul-value-fits c = omega arith
-
-shared-slice-read-value-fits : tie.Need-shared-slice-read-value-fits Inv-loop μ-loop
-shared-slice-read-value-fits c = omega arith
-
-value-fits-requires : tie.Need-value-fits-requires Inv-loop μ-loop
-value-fits-requires c κs = tt
+field-fits-requires : tie.Need-field-fits-requires Inv-loop μ-loop
+field-fits-requires c κs = omega arith
 
 returns : tie.Need-returns Inv-loop μ-loop
 returns c =
-    let l = c .before .before .before .before .before .loop in
-    λ types. every-stops _ _ (l .i) _ (l .inv .0 types) (omega arith) (told-no (place-is _ _ _ _ _ _ (c .before .value-fits .ensures types))
+    let l = c .before .before .before .loop in
+    λ types. every-stops _ _ (l .i) _ (l .inv .0 types) (omega arith) (told-no (c .before .field-fits .ensures types)
     (c .if1 .taken))
 
 add-i : tie.Need-add-i Inv-loop μ-loop
@@ -50,8 +41,8 @@ loop-less c = omega arith
 
 loop-again : tie.Need-loop-again Inv-loop μ-loop
 loop-again c =
-    let l = c .before .before .before .before .before .loop in (
-      λ types. every-on _ _ (l .i) _ (l .inv .0 types) (omega arith) (told-yes (place-is _ _ _ _ _ _ (c .before .value-fits .ensures types))
+    let l = c .before .before .before .loop in (
+      λ types. every-on _ _ (l .i) _ (l .inv .0 types) (omega arith) (told-yes (c .before .field-fits .ensures types)
           (c .if1 .left)),
       omega arith,
     )
@@ -68,10 +59,7 @@ row-fits-spec =
     Inv-loop
     μ-loop
     loop-holds
-    element-copy-out-value-fits
-    mul-value-fits
-    shared-slice-read-value-fits
-    value-fits-requires
+    field-fits-requires
     returns
     add-i
     loop-less

@@ -1,64 +1,78 @@
 -- `straight::store` meets its contract.
-use mathlib.Core.Path.{refl}
+use mathlib.Core.Path.{ap}
 use native.Mathlib.Omega.{arith}
 use borrow.Author.Needs.{needs}
-use Rattle.straight.proofs.Steps.{store-closes, store-holds, part-is, part-length, row-words}
+use Rattle.straight.specs.declared.Progress.{Progress}
+use Rattle.model.proofs.Logic.{told-no, told-yes}
+use Rattle.straight.proofs.Steps.{store-other, store-closes, store-holds, part-is, part-length, row-words}
 use Rattle.straight.proofs.store.Statement.{statement}
 use Rattle.straight.proofs.store.Tie as tie
 
-element-write-fields : tie.Need-element-write-fields
-element-write-fields c = search needs
+may-touch-requires : tie.Need-may-touch-requires
+may-touch-requires c κs = search needs
+
+refused-requires : tie.Need-refused-requires
+refused-requires c κs = search needs
+
+returns : tie.Need-returns
+returns c = (
+  λ place registers views. store-other _ _ _ _ _ _ _ _ (told-no (c .before .before .may-touch .ensures) (c .before .if1 .taken)) _
+      (ap (λ (p : Progress). p .number) (c .refused .ensures)) _,
+  omega (arith, (ap (λ (p : Progress). p .number) (c .refused .ensures))),
+)
 
 row-requires : tie.Need-row-requires
 row-requires c κs = search needs
 
-sub-row-fits : tie.Need-sub-row-fits
-sub-row-fits c =
-    let z = row-words _ _ _ (c .before .before .before .pre .3) (c .row .ensures) in
+cast-born : tie.Need-cast-born
+cast-born c = search needs
+
+sub-put : tie.Need-sub-put
+sub-put c =
+    let z = row-words _ _ _ (omega arith) (c .before .row .ensures) in
     omega arith
 
-part-row-fits-start : tie.Need-part-row-fits-start
-part-row-fits-start c =
-    let z = row-words _ _ _ (c .before .before .before .pre .3) (c .row .ensures) in
+part-put-start : tie.Need-part-put-start
+part-put-start c =
+    let z = row-words _ _ _ (omega arith) (c .before .row .ensures) in
     omega arith
 
-part-row-fits-end : tie.Need-part-row-fits-end
-part-row-fits-end c = search needs
+part-put-end : tie.Need-part-put-end
+part-put-end c = search needs
 
-row-fits-requires : tie.Need-row-fits-requires
-row-fits-requires c κs =
-    let z = part-length _ _ _ (c .before .before .before .before .before .pre .3) (c .before .before .row .ensures) in
+put-requires : tie.Need-put-requires
+put-requires c κs =
+    let z = part-length _ _ _ (omega arith) (c .before .before .row .ensures) in
     omega arith
-
-cast-t24 : tie.Need-cast-t24
-cast-t24 c = search needs
-
-returns : tie.Need-returns
-returns c = (
-  λ registers views base. store-closes _ _ _ _ _ _ _ _ _ _ _ _ _ _ _ _ _ _
-      (c .before .before .before .before .before .before .before .pre .0) (part-is _ _ _ (c .before .before .before .before .row .ensures))
-      (c .before .row-fits .ensures _) (c .if1 .taken),
-  refl,
-)
 
 returns-2 : tie.Need-returns-2
 returns-2 c = (
-  λ registers views base. store-holds _ _ _ _ _ _ _ _ _ _ _ _ _ _ _ _ _ _
-      (c .before .before .before .before .before .before .before .pre .0) (part-is _ _ _ (c .before .before .before .before .row .ensures))
-      (c .before .row-fits .ensures _) (c .if1 .left),
-  refl,
+  λ place registers views. store-closes _ _ _ _ _ _ _ _ _ _ _ _ _ _ _ _ _ (told-yes (c .before .before .before .before .before .before .may-touch .ensures)
+      (c .before .before .before .before .before .if1 .left)) _ _ (c .before .before .before .before .before .before .before .before .before .pre .0) (part-is _ _ _ (c .before .before .before .before .row .ensures)) (c .before .put .ensures .1 _)
+      _ (c .before .put .ensures .0) (c .if2 .taken),
+  omega arith,
+)
+
+returns-3 : tie.Need-returns-3
+returns-3 c = (
+  λ place registers views. store-holds _ _ _ _ _ _ _ _ _ _ _ _ _ _ _ _ _ (told-yes (c .before .before .before .before .before .before .may-touch .ensures)
+      (c .before .before .before .before .before .if1 .left)) _ _ (c .before .before .before .before .before .before .before .before .before .pre .0) (part-is _ _ _ (c .before .before .before .before .row .ensures)) (c .before .put .ensures .1 _)
+      _ (c .before .put .ensures .0) (c .if2 .left),
+  omega arith,
 )
 
 pub store-spec : {M : Type 1} → statement M
 store-spec =
     tie.close
     (tie.spec
-    element-write-fields
-    row-requires
-    sub-row-fits
-    part-row-fits-start
-    part-row-fits-end
-    row-fits-requires
-    cast-t24
+    may-touch-requires
+    refused-requires
     returns
-    returns-2)
+    row-requires
+    cast-born
+    sub-put
+    part-put-start
+    part-put-end
+    put-requires
+    returns-2
+    returns-3)
