@@ -1,5 +1,5 @@
 -- One instruction: a law for each way out of `effect_of`, `carry_out` and `leave`.
-use mathlib.Core.Path.{_≡_, refl, sym, ap, _∙_}
+use mathlib.Core.Path.{_≡_, refl, sym, _∙_}
 use mathlib.Core.Logic.{_⊎_, inl, inr}
 use mathlib.Core.Bool.{Bool, true, false, false≢true}
 use mathlib.Core.List.{List}
@@ -11,7 +11,7 @@ use lib.ListN.{length, getD, set}
 use borrow.Author.Tests.{lt-ltb, le-ltb, ltb-true, eq-eqb, ne-eqb}
 use Rattle.model.specs.Word.{opcodeOf, aOf, bOf, cOf, sum, difference, product, signed, moved}
 use Rattle.model.specs.Table.{Routine}
-use Rattle.model.specs.Machine.{Plain, constant, copy, add, subtract, multiply, divide, move, load, store, End, halt, jump, ifEqual, ifLess, Instruction, plain, end, malformed, decode, hasForm, formed, wellFormed, put, reg, effect, addressed, registersAfter, memoryAfter, next, targetsExist, State, goes, faults, need, after, leave, perform}
+use Rattle.model.specs.Machine.{Plain, constant, copy, add, subtract, multiply, divide, move, load, store, End, halt, jump, ifEqual, ifLess, Instruction, plain, end, malformed, decode, hasForm, formed, wellFormed, put, reg, effect, addressed, registersAfter, memoryAfter, next, targetsExist, State, need, leave, perform}
 use Rattle.model.proofs.Logic.{byTest, byEqual, byLess}
 use Rattle.instruction.specs.Form.{leadsOn, formNo}
 use Rattle.instruction.proofs.Forms.{row-0, row-1, row-2, row-3, row-4, row-5, row-6, row-7, row-8, row-9, row-10, row-11, row-12, decoded, known}

@@ -1,6 +1,5 @@
 // The machine: one instruction, a block, and a run with its opening questions.
 ghost use mathlib.Core.Path.{_≡_};
-ghost use mathlib.Core.Bool.{true};
 ghost use mathlib.Core.List.{List};
 ghost use Prim.Native.Nat.{ℕ, suc, _+_, _-_, _/_, _<_, _≤_};
 ghost use lib.Dec.{ltb, eqb};
@@ -44,6 +43,8 @@ const STORE: u32 = 9;
 const JUMP: u32 = 10;
 
 const IF_EQUAL: u32 = 11;
+
+const REGISTERS: u32 = 8;
 
 const LAST_REGISTER: usize = 7;
 
@@ -131,7 +132,8 @@ fn effect_of(registers: &[u32; 8], w: u32) -> Effect
         return Effect::Refused(MALFORMED);
     }
     let x = registers[b];
-    let y = registers[(c % 8) as usize];
+    // The register that c numbers, for the opcodes whose c is one.
+    let y = registers[(c % REGISTERS) as usize];
     if op == CONSTANT {
         return if_formed(b == 0, a, c);
     }
@@ -139,13 +141,13 @@ fn effect_of(registers: &[u32; 8], w: u32) -> Effect
         return if_formed(c == 0, a, x);
     }
     if op == ADD {
-        return if_formed(c < 8, a, word::sum(x, y));
+        return if_formed(c < REGISTERS, a, word::sum(x, y));
     }
     if op == SUBTRACT {
-        return if_formed(c < 8, a, word::difference(x, y));
+        return if_formed(c < REGISTERS, a, word::difference(x, y));
     }
     if op == MULTIPLY {
-        return if_formed(c < 8, a, word::product(x, y));
+        return if_formed(c < REGISTERS, a, word::product(x, y));
     }
     if op == DIVIDE {
         if c == 0 {

@@ -1,5 +1,4 @@
 -- `machine::if_formed` meets its contract.
-use native.Mathlib.Omega.{arith}
 use borrow.Author.Needs.{needs}
 use Rattle.machine.proofs.if_formed.Statement.{statement}
 use Rattle.machine.proofs.if_formed.Tie as tie
