@@ -46,11 +46,11 @@ fn numbered(out: &mut [u8; 65536], n: usize, row: u32) -> usize {
     columns(out, b, row)
 }
 
-// The rows of 1 to 22.
+// The rows of the questions.
 fn numbers(out: &mut [u8; 65536], n: usize) -> usize {
     let mut at = n;
     let mut row = 1u32;
-    while row < 23 {
+    while row <= words::LAST {
         at = numbered(out, at, row);
         row += 1;
     }

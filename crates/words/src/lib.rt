@@ -2,8 +2,10 @@
 // words and docs/REFUSALS.md are both made from here.
 mod rows;
 
-// ---- rows beside those of the numbers
+// ---- the rows
 
+// The last number of a question; the first is 1.
+pub const LAST: u32 = 22;
 // A run's 0; a check's is row 0.
 pub const HALTED: u32 = 100;
 // A line that is no request.
@@ -36,7 +38,7 @@ fn cell(out: &mut [u8; 65536], n: usize, row: u32, a: Asked) -> usize {
     if row < 16 {
         return rows::code(out, n, row, a);
     }
-    if row < 23 {
+    if row <= LAST {
         return rows::states(out, n, row, a);
     }
     rows::others(out, n, row, a)
