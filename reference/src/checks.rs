@@ -94,48 +94,54 @@ pub fn check(types: &[u32], tags: &[u32], blocks: &[u32], code: &[u32]) -> Verdi
 
 // ---- allocations and meanings
 
-/// By address: the type of the record that starts there and how many of its type follow each other from there on.
-struct Owners(Vec<(u32, u32)>);
+/// By address: the row of the record that starts there, counted from 1; and by row, where the records of its type that follow
+/// each other from there on end.
+struct Owners<'a> {
+    allocations: &'a [u32],
+    rows: Vec<u16>,
+    ends: Vec<u16>,
+}
 
-const FREE: u32 = u32::MAX;
-
-impl Owners {
-    fn new(types: Types, allocations: &[u32], top: usize) -> Self {
-        let mut all = vec![(FREE, 0); top];
-        let mut next = (usize::MAX, FREE, 0);
-        for row in allocations.chunks(2).rev() {
+impl<'a> Owners<'a> {
+    fn new(types: Types, allocations: &'a [u32], top: usize) -> Self {
+        let mut rows = vec![0; top];
+        let mut ends = vec![0; allocations.len() / 2];
+        let mut next = (usize::MAX, 0, 0);
+        for (r, row) in allocations.chunks_exact(2).enumerate().rev() {
             let (start, t) = (row[0] as usize, row[1]);
-            let follows = next.0 == start + types.size(t as usize) && next.1 == t;
-            let many = if follows { next.2 + 1 } else { 1 };
-            all[start] = (t, many);
-            next = (start, t, many);
+            let end = start + types.size(t as usize);
+            ends[r] = if next.0 == end && next.1 == t { next.2 } else { end as u16 };
+            rows[start] = r as u16 + 1;
+            next = (start, t, ends[r]);
         }
-        Owners(all)
+        Owners { allocations, rows, ends }
+    }
+
+    /// The row of the record of type t that starts at p.
+    fn row(&self, p: u32, t: usize) -> Option<usize> {
+        let r = usize::from(*self.rows.get(p as usize)?).checked_sub(1)?;
+        (self.allocations[2 * r + 1] as usize == t).then_some(r)
     }
 
     fn is(&self, p: u32, t: usize) -> bool {
-        self.0.get(p as usize).is_some_and(|o| o.0 as usize == t)
-    }
-
-    fn many(&self, p: u32) -> u32 {
-        self.0[p as usize].1
+        self.row(p, t).is_some()
     }
 }
 
 fn meets(types: Types, owners: &Owners, w: u32, words: &[u32], p: u32) -> bool {
     let at = |x: usize| if x < 8 { words[x] } else { x as u32 - 8 };
-    let (d, e, t) = (at(first(w)), at(second(w)), record(w));
-    let tagged = || types.tags.get(d as usize).is_some_and(|&t| owners.is(p, t as usize));
+    let t = record(w);
+    let tagged = || types.tags.get(at(first(w)) as usize).is_some_and(|&t| owners.is(p, t as usize));
     match kind(w) {
         ANY => true,
         REF => owners.is(p, t),
         MAYBE => p == 0 || owners.is(p, t),
         TAGGED => p == 0 || tagged(),
         PRESENT => p != 0 && tagged(),
-        SAME => p == d,
+        SAME => p == at(first(w)),
         k => {
-            let n = types.size(t) as u32;
-            let run = d < e && (e - d) % n == 0 && p.wrapping_sub(d) % n == 0 && owners.is(d, t) && (e - d) / n <= owners.many(d);
+            let (d, e, n) = (at(first(w)), at(second(w)), types.size(t) as u32);
+            let run = d < e && owners.row(d, t).is_some_and(|r| e <= u32::from(owners.ends[r])) && (e - d) % n == 0 && p.wrapping_sub(d) % n == 0;
             run && (k == RUN || d <= p) && (k != IN || p < e)
         }
     }
@@ -146,7 +152,7 @@ fn q19(types: Types, allocations: &[u32], top: usize) -> Asked {
         return no(19, 0, 0);
     }
     let mut low = 1u64;
-    for (r, row) in allocations.chunks(2).enumerate() {
+    for (r, row) in allocations.chunks_exact(2).enumerate() {
         let (start, t) = (row[0] as u64, row[1] as usize);
         if t >= types.count() || start < low || start + types.size(t) as u64 > top as u64 {
             return no(19, r, 0);
@@ -166,11 +172,11 @@ fn layout(types: Types, allocations: &[u32], top: usize) -> Asked {
 fn memory_asked(types: Types, allocations: &[u32], memory: &[u32]) -> Asked {
     layout(types, allocations, memory.len())?;
     let owners = Owners::new(types, allocations, memory.len());
-    for (r, row) in allocations.chunks(2).enumerate() {
+    for (r, row) in allocations.chunks_exact(2).enumerate() {
         let (start, t) = (row[0] as usize, row[1] as usize);
         let words = &memory[start..start + types.size(t)];
-        for (f, &p) in words.iter().enumerate() {
-            if !meets(types, &owners, types.fields(t)[f], words, p) {
+        for (f, (&w, &p)) in types.fields(t).iter().zip(words).enumerate() {
+            if w != 0 && !meets(types, &owners, w, words, p) {
                 return no(20, r, f);
             }
         }

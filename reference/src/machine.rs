@@ -3,35 +3,35 @@
 use crate::tables::{q1_code, q5, Routine};
 use crate::{Asked, Verdict};
 
-/// The parts of an instruction word.
+/// The parts of an instruction word, and the word without its opcode.
 #[derive(Clone, Copy)]
 pub struct Parts {
     pub op: u32,
     pub a: usize,
     pub b: usize,
     pub c: u32,
+    rest: u32,
 }
 
 pub fn parts(w: u32) -> Parts {
-    Parts { op: w >> 24, a: (w >> 20 & 15) as usize, b: (w >> 16 & 15) as usize, c: w & 65535 }
+    Parts { op: w >> 24, a: (w >> 20 & 15) as usize, b: (w >> 16 & 15) as usize, c: w & 65535, rest: w & 0xff_ffff }
 }
 
 pub fn ends_block(op: u32) -> bool {
     op == 0 || op >= 10
 }
 
+/// For each opcode the bits of an instruction word that must be zero.
+const ZERO: [u32; 13] = {
+    const NO_C: u32 = 0x00_ffff;
+    const A: u32 = 0x80_0000;
+    const B: u32 = 0x08_0000;
+    const NO_B: u32 = 0x0f_0000;
+    [0xff_ffff, A | NO_B, A | B | NO_C, A | B | 0xfff8, A | B | 0xfff8, A | B | 0xfff8, A | B, A | B, A | B, A | B, 0xff_0000, A | NO_B, A | B]
+};
+
 fn well_formed(p: Parts) -> bool {
-    let (a, b) = (p.a < 8, p.b < 8);
-    match p.op {
-        0 => p.a == 0 && p.b == 0 && p.c == 0,
-        1 | 11 => a && p.b == 0,
-        2 => a && b && p.c == 0,
-        3..=5 => a && b && p.c < 8,
-        6 => a && b && p.c > 0,
-        7..=9 | 12 => a && b,
-        10 => p.a == 0 && p.b == 0,
-        _ => false,
-    }
+    ZERO.get(p.op as usize).is_some_and(|zero| p.rest & zero == 0) && (p.op != 6 || p.c != 0)
 }
 
 /// The number of the first no of Q7, Q8 and Q9, 0 where there is none.

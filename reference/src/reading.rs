@@ -2,95 +2,116 @@
 
 use crate::tables::*;
 
-/// A dependency of a value's type: another value, or a constant.
+/// A value's name. A block makes at most 256: eight at its entry, eight with each of the 31 instructions before its last.
+type Name = u8;
+
+/// A dependency of a type: a value, or a constant.
 #[derive(Clone, Copy, PartialEq, Eq)]
-pub enum Dep {
-    Value(u16),
-    Constant(u32),
+enum Dep {
+    Value(Name),
+    Constant(u8),
 }
 
-/// A type over values.
-#[derive(Clone, Copy)]
-pub struct Type {
-    pub kind: u32,
-    pub record: usize,
-    pub d: Dep,
-    pub e: Dep,
-}
-
-const NO_DEP: Dep = Dep::Constant(0);
-
-fn dep(x: usize, names: &[u16; 8]) -> Dep {
+fn dep(x: usize, names: &[Name; 8]) -> Dep {
     if x < 8 {
         Dep::Value(names[x])
     } else {
-        Dep::Constant(x as u32 - 8)
+        Dep::Constant(x as u8 - 8)
     }
 }
 
-/// A type word read with the values `names` for its names.
-pub fn typed(w: u32, names: &[u16; 8]) -> Type {
-    Type { kind: kind(w), record: record(w), d: dep(first(w), names), e: dep(second(w), names) }
+#[derive(Clone, Copy)]
+struct Value {
+    /// its type word, whose names are eight values made together, this the first
+    word: u32,
+    siblings: Name,
+    /// from opcode 1 or Same with a constant
+    constant: Option<u16>,
 }
 
-#[derive(Clone, Copy)]
-pub struct Value {
-    pub ty: Type,
-    pub constant: Option<u32>,
+impl Value {
+    fn dep(self, x: usize) -> Dep {
+        if x < 8 {
+            Dep::Value(self.siblings.wrapping_add(x as Name))
+        } else {
+            Dep::Constant(x as u8 - 8)
+        }
+    }
+
+    fn d(self) -> Dep {
+        self.dep(first(self.word))
+    }
+
+    fn e(self) -> Dep {
+        self.dep(second(self.word))
+    }
 }
+
+const UNKNOWN: Value = Value { word: 0, siblings: 0, constant: None };
 
 /// What a taken opcode 11 adds: a value and one more constant of it.
-type Fact = Option<(u16, u32)>;
+type Fact = Option<(Name, u32)>;
 
 pub struct Open {
-    pub base: u16,
-    pub fields: [u16; 8],
+    base: Name,
+    fields: [Name; 8],
 }
 
 pub struct Reading<'a> {
     types: Types<'a>,
-    values: Vec<Value>,
-    pub registers: [u16; 8],
-    /// field values seen through a base since the last close
-    views: Vec<(u16, [u16; 8])>,
+    values: [Value; 256],
+    made: usize,
+    registers: [Name; 8],
+    /// bases read since the last close, with the first of the eight values of their fields
+    views: Vec<(Name, Name)>,
     pub open: Option<Open>,
+}
+
+/// Eight values made together.
+fn eight(first: Name) -> [Name; 8] {
+    std::array::from_fn(|i| first.wrapping_add(i as Name))
 }
 
 impl<'a> Reading<'a> {
     pub fn new(types: Types<'a>) -> Self {
-        Reading { types, values: Vec::with_capacity(264), registers: [0; 8], views: Vec::new(), open: None }
+        Reading { types, values: [UNKNOWN; 256], made: 0, registers: [0; 8], views: Vec::with_capacity(31), open: None }
     }
 
     /// At entry each register holds its own value, typed by the annotation.
     pub fn enter(&mut self, annotation: &[u32]) {
-        self.values.clear();
+        self.made = 0;
         self.views.clear();
         self.open = None;
-        self.registers = self.born(annotation);
+        self.registers = eight(self.born(annotation));
     }
 
-    /// Eight values typed by a row, each other's siblings.
-    fn born(&mut self, row: &[u32]) -> [u16; 8] {
-        let base = self.values.len() as u16;
-        let names: [u16; 8] = std::array::from_fn(|i| base + i as u16);
-        for &w in row {
-            let ty = typed(w, &names);
-            let constant = match (ty.kind, ty.d) {
-                (SAME, Dep::Constant(c)) => Some(c),
-                _ => None,
-            };
-            self.values.push(Value { ty, constant });
+    /// Eight values typed by a row, each other's siblings; gives the first.
+    fn born(&mut self, row: &[u32]) -> Name {
+        let siblings = self.made as Name;
+        for (value, &word) in self.values[self.made..].iter_mut().zip(row) {
+            let constant = (kind(word) == SAME && first(word) >= 8).then(|| first(word) as u16 - 8);
+            *value = Value { word, siblings, constant };
         }
-        names
+        self.made += 8;
+        siblings
+    }
+
+    fn value(&self, v: Name) -> Value {
+        self.values[v as usize]
+    }
+
+    fn held(&self, a: usize) -> Value {
+        self.value(self.registers[a])
     }
 
     fn fresh(&mut self, a: usize, value: Value) {
-        self.values.push(value);
-        self.registers[a] = self.values.len() as u16 - 1;
+        self.values[self.made] = value;
+        self.registers[a] = self.made as Name;
+        self.made += 1;
     }
 
     pub fn constant(&mut self, a: usize, c: u32) {
-        self.fresh(a, Value { ty: Type { kind: ANY, record: 0, d: NO_DEP, e: NO_DEP }, constant: Some(c) });
+        self.fresh(a, Value { constant: Some(c as u16), ..UNKNOWN });
     }
 
     pub fn copy(&mut self, a: usize, b: usize) {
@@ -98,16 +119,16 @@ impl<'a> Reading<'a> {
     }
 
     pub fn unknown(&mut self, a: usize) {
-        self.fresh(a, Value { ty: Type { kind: ANY, record: 0, d: NO_DEP, e: NO_DEP }, constant: None });
+        self.fresh(a, UNKNOWN);
     }
 
     /// Opcode 7.
     pub fn moved(&mut self, a: usize, b: usize, c: u32) {
-        let ty = self.values[self.registers[b] as usize].ty;
-        if ty.kind >= RUN {
-            let n = self.types.size(ty.record) as u32;
+        let Value { word, siblings, .. } = self.held(b);
+        if kind(word) >= RUN {
+            let n = self.types.size(record(word)) as u32;
             if n.is_power_of_two() && c % n == 0 {
-                self.fresh(a, Value { ty: Type { kind: RUN, ..ty }, constant: None });
+                self.fresh(a, Value { word: with_kind(word, RUN), siblings, constant: None });
                 return;
             }
         }
@@ -118,17 +139,14 @@ impl<'a> Reading<'a> {
 
     fn some_constant(&self, x: Dep, fact: Fact, test: impl Fn(u32) -> bool) -> bool {
         match x {
-            Dep::Constant(c) => test(c),
-            Dep::Value(v) => self.values[v as usize].constant.is_some_and(&test) || fact.is_some_and(|(w, c)| w == v && test(c)),
+            Dep::Constant(c) => test(u32::from(c)),
+            Dep::Value(v) => self.value(v).constant.is_some_and(|c| test(u32::from(c))) || fact.is_some_and(|(w, c)| w == v && test(c)),
         }
     }
 
     fn is_same_of(&self, x: Dep, y: Dep) -> bool {
         match x {
-            Dep::Value(v) => {
-                let ty = self.values[v as usize].ty;
-                ty.kind == SAME && ty.d == y
-            }
+            Dep::Value(v) => kind(self.value(v).word) == SAME && self.value(v).d() == y,
             Dep::Constant(_) => false,
         }
     }
@@ -143,61 +161,63 @@ impl<'a> Reading<'a> {
 
     // ---- fits
 
-    fn fits_ref(&self, v: u16, t: usize, fact: Fact) -> bool {
-        let ty = self.values[v as usize].ty;
-        match ty.kind {
-            REF | IN => ty.record == t,
-            PRESENT => self.known_tag(ty.d, t, fact),
+    fn fits_ref(&self, v: Name, t: usize, fact: Fact) -> bool {
+        let value = self.value(v);
+        match kind(value.word) {
+            REF | IN => record(value.word) == t,
+            PRESENT => self.known_tag(value.d(), t, fact),
             _ => false,
         }
     }
 
-    fn fits(&self, v: u16, target: Type, fact: Fact) -> bool {
-        let ty = self.values[v as usize].ty;
+    /// Whether value v fits the type word w over names.
+    fn fits(&self, v: Name, w: u32, names: &[Name; 8], fact: Fact) -> bool {
+        let value = self.value(v);
+        let (k, t) = (kind(value.word), record(w));
+        let d = || dep(first(w), names);
         let zero = || self.some_constant(Dep::Value(v), fact, |c| c == 0);
-        let t = target.record;
-        match target.kind {
+        match kind(w) {
             ANY => true,
-            SAME => self.equal(Dep::Value(v), target.d, fact),
+            SAME => self.equal(Dep::Value(v), d(), fact),
             REF => self.fits_ref(v, t, fact),
             MAYBE => {
                 self.fits_ref(v, t, fact)
                     || zero()
-                    || ty.kind == MAYBE && ty.record == t
-                    || ty.kind == TAGGED && self.some_constant(ty.d, fact, |k| self.types.tag_of(k, t) || k as usize >= self.types.tags.len())
+                    || k == MAYBE && record(value.word) == t
+                    || k == TAGGED && self.some_constant(value.d(), fact, |k| self.types.tag_of(k, t) || k as usize >= self.types.tags.len())
             }
-            TAGGED => zero() || ty.kind == TAGGED && self.equal(ty.d, target.d, fact) || ty.kind == MAYBE && self.known_tag(target.d, ty.record, fact) || self.fits_present(v, target.d, fact),
-            PRESENT => self.fits_present(v, target.d, fact),
-            _ => ty.kind >= target.kind && ty.record == t && self.equal(ty.d, target.d, fact) && self.equal(ty.e, target.e, fact),
+            TAGGED => zero() || k == TAGGED && self.equal(value.d(), d(), fact) || k == MAYBE && self.known_tag(d(), record(value.word), fact) || self.fits_present(v, d(), fact),
+            PRESENT => self.fits_present(v, d(), fact),
+            wanted => k >= wanted && record(value.word) == t && self.equal(value.d(), d(), fact) && self.equal(value.e(), dep(second(w), names), fact),
         }
     }
 
-    fn fits_present(&self, v: u16, d: Dep, fact: Fact) -> bool {
-        let ty = self.values[v as usize].ty;
-        match ty.kind {
-            PRESENT => self.equal(ty.d, d, fact),
-            REF | IN => self.known_tag(d, ty.record, fact),
+    fn fits_present(&self, v: Name, d: Dep, fact: Fact) -> bool {
+        let value = self.value(v);
+        match kind(value.word) {
+            PRESENT => self.equal(value.d(), d, fact),
+            REF | IN => self.known_tag(d, record(value.word), fact),
             _ => false,
         }
     }
 
-    fn row_fits(&self, n: usize, row: &[u32], names: &[u16; 8], fact: Fact) -> bool {
-        (0..n).all(|i| row[i] == 0 || self.fits(names[i], typed(row[i], names), fact))
+    fn row_fits(&self, row: &[u32], names: &[Name; 8], fact: Fact) -> bool {
+        row.iter().zip(names).all(|(&w, &v)| w == 0 || self.fits(v, w, names, fact))
     }
 
     // ---- loads and stores
 
     /// The T of the Ref T that the value in register b fits.
     pub fn reference(&self, b: usize) -> Option<usize> {
-        let ty = self.values[self.registers[b] as usize].ty;
-        match ty.kind {
-            REF | IN => Some(ty.record),
+        let value = self.held(b);
+        match kind(value.word) {
+            REF | IN => Some(record(value.word)),
             PRESENT => {
-                let k = match ty.d {
-                    Dep::Constant(c) => Some(c),
-                    Dep::Value(v) => self.values[v as usize].constant,
-                }?;
-                self.types.tags.get(k as usize).map(|&t| t as usize)
+                let k = match value.d() {
+                    Dep::Constant(c) => u16::from(c),
+                    Dep::Value(v) => self.value(v).constant?,
+                };
+                self.types.tags.get(usize::from(k)).map(|&t| t as usize)
             }
             _ => None,
         }
@@ -207,29 +227,31 @@ impl<'a> Reading<'a> {
         self.open.as_ref().is_none_or(|o| o.base == self.registers[b])
     }
 
-    fn fields(&mut self, v: u16, t: usize) -> [u16; 8] {
-        if let Some(o) = &self.open {
-            return o.fields;
+    /// The first of the eight values of the fields seen through value v, a reference to a record of type t.
+    fn view(&mut self, v: Name, t: usize) -> Name {
+        if let Some(&(_, first)) = self.views.iter().find(|view| view.0 == v) {
+            return first;
         }
-        if let Some(&(_, fields)) = self.views.iter().find(|view| view.0 == v) {
-            return fields;
-        }
-        let row = self.types.fields(t);
-        let fields = self.born(row);
-        self.views.push((v, fields));
-        fields
+        let first = self.born(self.types.fields(t));
+        self.views.push((v, first));
+        first
     }
 
     pub fn load(&mut self, a: usize, b: usize, c: usize, t: usize) {
-        let fields = self.fields(self.registers[b], t);
-        self.registers[a] = fields[c];
+        self.registers[a] = match &self.open {
+            Some(o) => o.fields[c],
+            None => self.view(self.registers[b], t).wrapping_add(c as Name),
+        };
     }
 
     pub fn store(&mut self, a: usize, b: usize, c: usize, t: usize) {
         let base = self.registers[b];
-        let mut fields = self.fields(base, t);
+        let mut fields = match &self.open {
+            Some(o) => o.fields,
+            None => eight(self.view(base, t)),
+        };
         fields[c] = self.registers[a];
-        if self.row_fits(self.types.size(t), self.types.fields(t), &fields, None) {
+        if self.row_fits(self.types.fields(t), &fields, None) {
             self.views.clear();
             self.open = None;
         } else {
@@ -241,16 +263,16 @@ impl<'a> Reading<'a> {
 
     /// Whether the registers meet an annotation, with one more fact.
     pub fn meets(&self, annotation: &[u32], fact: Fact) -> bool {
-        self.row_fits(8, annotation, &self.registers, fact)
+        self.row_fits(annotation, &self.registers, fact)
     }
 
     /// The same with another kind of the value in register a.
     fn meets_as(&mut self, annotation: &[u32], a: usize, kind: u32) -> bool {
         let v = self.registers[a] as usize;
-        let before = self.values[v].ty.kind;
-        self.values[v].ty.kind = kind;
+        let before = self.values[v].word;
+        self.values[v].word = with_kind(before, kind);
         let met = self.meets(annotation, None);
-        self.values[v].ty.kind = before;
+        self.values[v].word = before;
         met
     }
 
@@ -259,8 +281,7 @@ impl<'a> Reading<'a> {
     }
 
     pub fn meets_not_equal(&mut self, annotation: &[u32], a: usize, k: u32) -> bool {
-        let kind = self.values[self.registers[a] as usize].ty.kind;
-        match (k, kind) {
+        match (k, kind(self.held(a).word)) {
             (0, MAYBE) => self.meets_as(annotation, a, REF),
             (0, TAGGED) => self.meets_as(annotation, a, PRESENT),
             _ => self.meets(annotation, None),
@@ -268,16 +289,16 @@ impl<'a> Reading<'a> {
     }
 
     pub fn meets_less(&mut self, annotation: &[u32], a: usize, b: usize) -> bool {
-        let ty = self.values[self.registers[a] as usize].ty;
-        if ty.kind == FROM && self.equal(Dep::Value(self.registers[b]), ty.e, None) {
+        let value = self.held(a);
+        if kind(value.word) == FROM && self.equal(Dep::Value(self.registers[b]), value.e(), None) {
             return self.meets_as(annotation, a, IN);
         }
         self.meets(annotation, None)
     }
 
     pub fn meets_not_less(&mut self, annotation: &[u32], a: usize, b: usize) -> bool {
-        let ty = self.values[self.registers[a] as usize].ty;
-        if ty.kind == RUN && self.equal(Dep::Value(self.registers[b]), ty.d, None) {
+        let value = self.held(a);
+        if kind(value.word) == RUN && self.equal(Dep::Value(self.registers[b]), value.d(), None) {
             return self.meets_as(annotation, a, FROM);
         }
         self.meets(annotation, None)

@@ -16,6 +16,11 @@ pub fn kind(w: u32) -> u32 {
     w >> 24
 }
 
+/// The type word with another kind.
+pub fn with_kind(w: u32, kind: u32) -> u32 {
+    w & 0xff_ffff | kind << 24
+}
+
 pub fn record(w: u32) -> usize {
     (w >> 16 & 255) as usize
 }
