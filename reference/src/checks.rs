@@ -141,7 +141,8 @@ fn meets(types: Types, owners: &Owners, w: u32, words: &[u32], p: u32) -> bool {
         SAME => p == at(first(w)),
         k => {
             let (d, e, n) = (at(first(w)), at(second(w)), types.size(t) as u32);
-            let run = d < e && owners.row(d, t).is_some_and(|r| e <= u32::from(owners.ends[r])) && (e - d) % n == 0 && p.wrapping_sub(d) % n == 0;
+            let run =
+                d < e && owners.row(d, t).is_some_and(|r| e <= u32::from(owners.ends[r])) && (e - d) % n == 0 && p.wrapping_sub(d) % n == 0;
             run && (k == RUN || d <= p) && (k != IN || p < e)
         }
     }
@@ -188,7 +189,16 @@ pub fn memory_check(types: &[u32], tags: &[u32], allocations: &[u32], memory: &[
     verdict(memory_asked(Types { rows: types, tags }, allocations, memory))
 }
 
-pub fn entry_check(types: &[u32], tags: &[u32], allocations: &[u32], memory: &[u32], blocks: &[u32], code: &[u32], block: u32, registers: [u32; 8]) -> Verdict {
+pub fn entry_check(
+    types: &[u32],
+    tags: &[u32],
+    allocations: &[u32],
+    memory: &[u32],
+    blocks: &[u32],
+    code: &[u32],
+    block: u32,
+    registers: [u32; 8],
+) -> Verdict {
     let ts = Types { rows: types, tags };
     let r = Routine { rows: blocks, code };
     let asked = || {

@@ -219,7 +219,13 @@ fn memory(r: &mut Random, c: &mut Case) {
     let mut at = 1 + r.below(3);
     let mut t = count;
     loop {
-        t = if t > 0 && t <= count && c.allocations.len() < 2 * count { t - 1 } else if r.chance(2) { r.below(count) } else { t.min(count - 1) };
+        t = if t > 0 && t <= count && c.allocations.len() < 2 * count {
+            t - 1
+        } else if r.chance(2) {
+            r.below(count)
+        } else {
+            t.min(count - 1)
+        };
         let n = c.types[t * 9] as usize;
         if at + n > top || r.chance(20) {
             break;
@@ -261,7 +267,17 @@ fn registers(r: &mut Random, c: &mut Case) {
 pub fn case(r: &mut Random) -> Case {
     let (types, tags) = types(r);
     let (blocks, code) = routine(r, types.len() / 9);
-    let mut c = Case { types, tags, allocations: Vec::new(), memory: Vec::new(), blocks, code, block: 0, registers: [0; 8], budget: r.below(12) as u64 };
+    let mut c = Case {
+        types,
+        tags,
+        allocations: Vec::new(),
+        memory: Vec::new(),
+        blocks,
+        code,
+        block: 0,
+        registers: [0; 8],
+        budget: r.below(12) as u64,
+    };
     repair_routine(r, &mut c);
     memory(r, &mut c);
     registers(r, &mut c);

@@ -27,7 +27,21 @@ const ZERO: [u32; 13] = {
     const A: u32 = 0x80_0000;
     const B: u32 = 0x08_0000;
     const NO_B: u32 = 0x0f_0000;
-    [0xff_ffff, A | NO_B, A | B | NO_C, A | B | 0xfff8, A | B | 0xfff8, A | B | 0xfff8, A | B, A | B, A | B, A | B, 0xff_0000, A | NO_B, A | B]
+    [
+        0xff_ffff,
+        A | NO_B,
+        A | B | NO_C,
+        A | B | 0xfff8,
+        A | B | 0xfff8,
+        A | B | 0xfff8,
+        A | B,
+        A | B,
+        A | B,
+        A | B,
+        0xff_0000,
+        A | NO_B,
+        A | B,
+    ]
 };
 
 fn well_formed(p: Parts) -> bool {
@@ -110,7 +124,13 @@ pub fn run(blocks: &[u32], code: &[u32], memory: &mut [u32], block: u32, registe
         }
         let (from, to) = (starts[b], starts[b + 1]);
         for i in from..to {
-            let stop = |number: u32, finished: u64, regs: [u32; 8]| RunAnswer { number, block: b as u32, index: i as u32, finished, registers: regs };
+            let stop = |number: u32, finished: u64, regs: [u32; 8]| RunAnswer {
+                number,
+                block: b as u32,
+                index: i as u32,
+                finished,
+                registers: regs,
+            };
             let p = parts(code[i]);
             let number = form(p, i + 1 == to, b, count);
             if number != 0 {

@@ -184,11 +184,22 @@ impl<'a> Reading<'a> {
                 self.fits_ref(v, t, fact)
                     || zero()
                     || k == MAYBE && record(value.word) == t
-                    || k == TAGGED && self.some_constant(value.d(), fact, |k| self.types.tag_of(k, t) || k as usize >= self.types.tags.len())
+                    || k == TAGGED
+                        && self.some_constant(value.d(), fact, |k| self.types.tag_of(k, t) || k as usize >= self.types.tags.len())
             }
-            TAGGED => zero() || k == TAGGED && self.equal(value.d(), d(), fact) || k == MAYBE && self.known_tag(d(), record(value.word), fact) || self.fits_present(v, d(), fact),
+            TAGGED => {
+                zero()
+                    || k == TAGGED && self.equal(value.d(), d(), fact)
+                    || k == MAYBE && self.known_tag(d(), record(value.word), fact)
+                    || self.fits_present(v, d(), fact)
+            }
             PRESENT => self.fits_present(v, d(), fact),
-            wanted => k >= wanted && record(value.word) == t && self.equal(value.d(), d(), fact) && self.equal(value.e(), dep(second(w), names), fact),
+            wanted => {
+                k >= wanted
+                    && record(value.word) == t
+                    && self.equal(value.d(), d(), fact)
+                    && self.equal(value.e(), dep(second(w), names), fact)
+            }
         }
     }
 

@@ -36,13 +36,7 @@ fn time(mut a: impl FnMut(), mut b: impl FnMut()) -> (f64, f64) {
 }
 
 fn show(name: &str, size: &str, unit: &str, units: usize, t: (f64, f64)) {
-    println!(
-        "| {name} | {size} | {:.1} | {:.1} | {:.2} | {:.1} ns a {unit} |",
-        t.0,
-        t.1,
-        t.0 / t.1,
-        t.0 * 1000.0 / units as f64
-    );
+    println!("| {name} | {size} | {:.1} | {:.1} | {:.2} | {:.1} ns a {unit} |", t.0, t.1, t.0 / t.1, t.0 * 1000.0 / units as f64);
 }
 
 /// A routine of n blocks of 32 instructions: 31 of a body, then a jump to the next block.
@@ -57,14 +51,19 @@ fn routine(n: usize, annotation: &[u32], body: impl Fn(usize) -> u32) -> (Vec<u3
 }
 
 fn checks() {
-    let types: Vec<u32> = [row(8, &[0; 8]), row(8, &[0, ty(3, 0, 0, 0), ty(5, 0, 0, 0), ty(2, 0, 0, 0), ty(1, 0, 0, 0), ty(6, 0, 0, 0), 0, ty(3, 0, 6, 0)])].concat();
+    let types: Vec<u32> =
+        [row(8, &[0; 8]), row(8, &[0, ty(3, 0, 0, 0), ty(5, 0, 0, 0), ty(2, 0, 0, 0), ty(1, 0, 0, 0), ty(6, 0, 0, 0), 0, ty(3, 0, 6, 0)])]
+            .concat();
     let tags = [0, 1];
     let registers = [ty(1, 1, 0, 0), ty(1, 0, 0, 0), 0, 0, 0, 0, 0, 0];
     let kinds: [(&str, fn(usize) -> u32); 4] = [
         ("check, arithmetic", |i| ins(3, 2 + (i % 5) as u32, 2, 3)),
         ("check, loads", |i| ins(8, 2 + (i % 5) as u32, i as u32 & 1, (i % 8) as u32)),
         ("check, stores to eight Any fields", |i| ins(9, 2, 1, (i % 8) as u32)),
-        ("check, stores to eight mixed fields", |i| if i % 2 == 0 { ins(8, 2, 0, (i % 8) as u32) } else { ins(9, 2, 0, ((i - 1) % 8) as u32) }),
+        (
+            "check, stores to eight mixed fields",
+            |i| if i % 2 == 0 { ins(8, 2, 0, (i % 8) as u32) } else { ins(9, 2, 0, ((i - 1) % 8) as u32) },
+        ),
     ];
     for (name, body) in kinds {
         for (size, n) in [("quarter", 64), ("half", 128), ("full", 256)] {
@@ -72,8 +71,12 @@ fn checks() {
             let v = plain::check(&types, &tags, &blocks, &code);
             assert_eq!(v.number, 0, "{name}: {v:?}");
             let t = time(
-                || { black_box(proved::check(black_box(&types), &tags, &blocks, &code)); },
-                || { black_box(plain::check(black_box(&types), &tags, &blocks, &code)); },
+                || {
+                    black_box(proved::check(black_box(&types), &tags, &blocks, &code));
+                },
+                || {
+                    black_box(plain::check(black_box(&types), &tags, &blocks, &code));
+                },
             );
             show(name, size, "instruction", code.len(), t);
         }
@@ -83,7 +86,9 @@ fn checks() {
 fn memories() {
     // type 0: eight Any; type 1: eight fields, six of them In the run of type 1 from field 0 to field 1
     let any = row(8, &[0; 8]);
-    let runs: Vec<u32> = [row(8, &[0; 8]), row(8, &[0, 0, ty(8, 1, 0, 1), ty(7, 1, 0, 1), ty(6, 1, 0, 1), ty(8, 1, 0, 1), ty(7, 1, 0, 1), ty(6, 1, 0, 1)])].concat();
+    let runs: Vec<u32> =
+        [row(8, &[0; 8]), row(8, &[0, 0, ty(8, 1, 0, 1), ty(7, 1, 0, 1), ty(6, 1, 0, 1), ty(8, 1, 0, 1), ty(7, 1, 0, 1), ty(6, 1, 0, 1)])]
+            .concat();
     for (name, types, t) in [("memory check, eight Any fields", any, 0u32), ("memory check, six run fields of eight", runs, 1)] {
         for (size, n) in [("quarter", 511), ("half", 1023), ("full", 2047)] {
             let allocations: Vec<u32> = (0..n).flat_map(|k| [8 + 8 * k as u32, t]).collect();
@@ -96,8 +101,12 @@ fn memories() {
             let v = plain::memory_check(&types, &[], &allocations, &memory);
             assert_eq!(v.number, 0, "{name}: {v:?}");
             let time = time(
-                || { black_box(proved::memory_check(black_box(&types), &[], &allocations, &memory)); },
-                || { black_box(plain::memory_check(black_box(&types), &[], &allocations, &memory)); },
+                || {
+                    black_box(proved::memory_check(black_box(&types), &[], &allocations, &memory));
+                },
+                || {
+                    black_box(plain::memory_check(black_box(&types), &[], &allocations, &memory));
+                },
             );
             show(name, size, "record", n, time);
         }
@@ -122,8 +131,12 @@ fn runs() {
         assert_eq!(a.number, 0, "{a:?}");
         let (mut m, mut k) = (memory.clone(), memory.clone());
         let t = time(
-            || { black_box(proved::run(black_box(&blocks), &code, &mut m, 0, registers, u64::MAX)); },
-            || { black_box(plain::run(black_box(&blocks), &code, &mut k, 0, registers, u64::MAX)); },
+            || {
+                black_box(proved::run(black_box(&blocks), &code, &mut m, 0, registers, u64::MAX));
+            },
+            || {
+                black_box(plain::run(black_box(&blocks), &code, &mut k, 0, registers, u64::MAX));
+            },
         );
         show("run, load multiply divide store", size, "instruction", 6 * n as usize, t);
     }
@@ -134,8 +147,12 @@ fn runs() {
     for (size, n) in [("quarter", 256u64), ("half", 512), ("full", 1024)] {
         let (mut m, mut k) = (vec![0; 64], vec![0; 64]);
         let t = time(
-            || { black_box(proved::run(black_box(&blocks), &code, &mut m, 0, registers, n)); },
-            || { black_box(plain::run(black_box(&blocks), &code, &mut k, 0, registers, n)); },
+            || {
+                black_box(proved::run(black_box(&blocks), &code, &mut m, 0, registers, n));
+            },
+            || {
+                black_box(plain::run(black_box(&blocks), &code, &mut k, 0, registers, n));
+            },
         );
         show("run, arithmetic", size, "instruction", 32 * n as usize, t);
     }
@@ -144,7 +161,11 @@ fn runs() {
 fn entries() {
     let types = row(8, &[0; 8]);
     for (size, n) in [("quarter", 1024usize), ("half", 2048), ("full", 4096)] {
-        let types = { let mut t = types.clone(); t[0] = 1; t };
+        let types = {
+            let mut t = types.clone();
+            t[0] = 1;
+            t
+        };
         let allocations: Vec<u32> = (0..n).flat_map(|k| [1 + k as u32, 0]).collect();
         let memory = vec![0; n + 1];
         let (blocks, code) = routine(256, &[ty(8, 0, 1, 2), 0, 0, ty(1, 0, 0, 0)], |_| ins(2, 5, 5, 0));
@@ -152,8 +173,12 @@ fn entries() {
         let v = plain::entry_check(&types, &[], &allocations, &memory, &blocks, &code, 0, registers);
         assert_eq!(v.number, 0, "{v:?}");
         let t = time(
-            || { black_box(proved::entry_check(black_box(&types), &[], &allocations, &memory, &blocks, &code, 0, registers)); },
-            || { black_box(plain::entry_check(black_box(&types), &[], &allocations, &memory, &blocks, &code, 0, registers)); },
+            || {
+                black_box(proved::entry_check(black_box(&types), &[], &allocations, &memory, &blocks, &code, 0, registers));
+            },
+            || {
+                black_box(plain::entry_check(black_box(&types), &[], &allocations, &memory, &blocks, &code, 0, registers));
+            },
         );
         show("entry check, a long run", size, "row", n, t);
     }

@@ -41,7 +41,8 @@ fn difference(c: &Case) -> Option<String> {
 
 /// Runs an accepted case block by block; false where it could not be run.
 fn safe(c: &Case) -> Result<bool, String> {
-    let entered = |m: &[u32], b: u32, r: [u32; 8]| proved::entry_check(&c.types, &c.tags, &c.allocations, m, &c.blocks, &c.code, b, r).passed();
+    let entered =
+        |m: &[u32], b: u32, r: [u32; 8]| proved::entry_check(&c.types, &c.tags, &c.allocations, m, &c.blocks, &c.code, b, r).passed();
     let fits = |m: &[u32]| proved::memory_check(&c.types, &c.tags, &c.allocations, m).passed();
     if !proved::check(&c.types, &c.tags, &c.blocks, &c.code).passed() || !fits(&c.memory) || !entered(&c.memory, c.block, c.registers) {
         return Ok(false);

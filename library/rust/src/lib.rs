@@ -50,8 +50,28 @@ pub struct RunAnswer {
 
 mod sys {
     extern "C" {
-        pub fn ramdulsi_check(types: *const u32, types_words: usize, tags: *const u32, tags_words: usize, blocks: *const u32, blocks_words: usize, code: *const u32, code_words: usize, place: *mut u32) -> u32;
-        pub fn ramdulsi_memory_check(types: *const u32, types_words: usize, tags: *const u32, tags_words: usize, allocations: *const u32, allocations_words: usize, memory: *const u32, memory_words: usize, place: *mut u32) -> u32;
+        pub fn ramdulsi_check(
+            types: *const u32,
+            types_words: usize,
+            tags: *const u32,
+            tags_words: usize,
+            blocks: *const u32,
+            blocks_words: usize,
+            code: *const u32,
+            code_words: usize,
+            place: *mut u32,
+        ) -> u32;
+        pub fn ramdulsi_memory_check(
+            types: *const u32,
+            types_words: usize,
+            tags: *const u32,
+            tags_words: usize,
+            allocations: *const u32,
+            allocations_words: usize,
+            memory: *const u32,
+            memory_words: usize,
+            place: *mut u32,
+        ) -> u32;
         pub fn ramdulsi_entry_check(
             types: *const u32,
             types_words: usize,
@@ -69,7 +89,18 @@ mod sys {
             registers: *const u32,
             place: *mut u32,
         ) -> u32;
-        pub fn ramdulsi_run(blocks: *const u32, blocks_words: usize, code: *const u32, code_words: usize, memory: *mut u32, memory_words: usize, block: u32, registers: *mut u32, budget: u64, answer: *mut u32) -> u32;
+        pub fn ramdulsi_run(
+            blocks: *const u32,
+            blocks_words: usize,
+            code: *const u32,
+            code_words: usize,
+            memory: *mut u32,
+            memory_words: usize,
+            block: u32,
+            registers: *mut u32,
+            budget: u64,
+            answer: *mut u32,
+        ) -> u32;
     }
 }
 
@@ -82,18 +113,51 @@ fn verdict(call: impl FnOnce(*mut u32) -> u32) -> Verdict {
 /// Whether a routine is accepted over a type and a tag table.
 pub fn check(types: &[u32], tags: &[u32], blocks: &[u32], code: &[u32]) -> Verdict {
     // SAFETY: each pointer comes with its slice's length, and the call writes the two words of place alone.
-    verdict(|place| unsafe { sys::ramdulsi_check(types.as_ptr(), types.len(), tags.as_ptr(), tags.len(), blocks.as_ptr(), blocks.len(), code.as_ptr(), code.len(), place) })
+    verdict(|place| unsafe {
+        sys::ramdulsi_check(
+            types.as_ptr(),
+            types.len(),
+            tags.as_ptr(),
+            tags.len(),
+            blocks.as_ptr(),
+            blocks.len(),
+            code.as_ptr(),
+            code.len(),
+            place,
+        )
+    })
 }
 
 /// Whether every field of every allocated record meets its meaning.
 pub fn memory_check(types: &[u32], tags: &[u32], allocations: &[u32], memory: &[u32]) -> Verdict {
     // SAFETY: as in `check`.
-    verdict(|place| unsafe { sys::ramdulsi_memory_check(types.as_ptr(), types.len(), tags.as_ptr(), tags.len(), allocations.as_ptr(), allocations.len(), memory.as_ptr(), memory.len(), place) })
+    verdict(|place| unsafe {
+        sys::ramdulsi_memory_check(
+            types.as_ptr(),
+            types.len(),
+            tags.as_ptr(),
+            tags.len(),
+            allocations.as_ptr(),
+            allocations.len(),
+            memory.as_ptr(),
+            memory.len(),
+            place,
+        )
+    })
 }
 
 /// Whether registers meet the annotation of a block.
 #[allow(clippy::too_many_arguments)]
-pub fn entry_check(types: &[u32], tags: &[u32], allocations: &[u32], memory: &[u32], blocks: &[u32], code: &[u32], block: u32, registers: [u32; 8]) -> Verdict {
+pub fn entry_check(
+    types: &[u32],
+    tags: &[u32],
+    allocations: &[u32],
+    memory: &[u32],
+    blocks: &[u32],
+    code: &[u32],
+    block: u32,
+    registers: [u32; 8],
+) -> Verdict {
     // SAFETY: as in `check`; the call reads eight words of registers.
     verdict(|place| unsafe {
         sys::ramdulsi_entry_check(
@@ -121,6 +185,19 @@ pub fn run(blocks: &[u32], code: &[u32], memory: &mut [u32], block: u32, registe
     let mut registers = registers;
     let mut answer = [0; 4];
     // SAFETY: each pointer comes with its slice's length; the call writes memory, eight words of registers and four of answer.
-    let number = unsafe { sys::ramdulsi_run(blocks.as_ptr(), blocks.len(), code.as_ptr(), code.len(), memory.as_mut_ptr(), memory.len(), block, registers.as_mut_ptr(), budget, answer.as_mut_ptr()) };
+    let number = unsafe {
+        sys::ramdulsi_run(
+            blocks.as_ptr(),
+            blocks.len(),
+            code.as_ptr(),
+            code.len(),
+            memory.as_mut_ptr(),
+            memory.len(),
+            block,
+            registers.as_mut_ptr(),
+            budget,
+            answer.as_mut_ptr(),
+        )
+    };
     RunAnswer { number, block: answer[0], index: answer[1], finished: u64::from(answer[3]) << 32 | u64::from(answer[2]), registers }
 }
