@@ -42,7 +42,7 @@ impl Random {
     }
 }
 
-#[derive(Clone, Debug)]
+#[derive(Clone, Debug, Default)]
 pub struct Case {
     pub types: Vec<u32>,
     pub tags: Vec<u32>,
@@ -265,22 +265,71 @@ fn registers(r: &mut Random, c: &mut Case) {
 
 /// A case that is valid as far as repair comes.
 pub fn case(r: &mut Random) -> Case {
-    let (types, tags) = types(r);
-    let (blocks, code) = routine(r, types.len() / 9);
-    let mut c = Case {
-        types,
-        tags,
-        allocations: Vec::new(),
-        memory: Vec::new(),
-        blocks,
-        code,
-        block: 0,
-        registers: [0; 8],
-        budget: r.below(12) as u64,
-    };
+    let mut c = Case::default();
+    (c.types, c.tags) = types(r);
+    (c.blocks, c.code) = routine(r, c.types.len() / 9);
+    c.budget = r.below(12) as u64;
     repair_routine(r, &mut c);
     memory(r, &mut c);
     registers(r, &mut c);
+    c
+}
+
+/// Another routine over the same record types, tags and memory.
+pub fn another(r: &mut Random, first: &Case) -> Case {
+    let (blocks, code) = routine(r, first.types.len() / 9);
+    let mut c = Case { blocks, code, ..first.clone() };
+    repair_routine(r, &mut c);
+    registers(r, &mut c);
+    c
+}
+
+/// A table of random words: a few rows, none, as many as may be or one more, and now and then a part of a row.
+fn words(r: &mut Random, width: usize, most: usize) -> Vec<u32> {
+    let rows = match r.below(24) {
+        0 => 0,
+        1 => most,
+        2 => most + 1,
+        _ => 1 + r.below(6),
+    };
+    let n = rows * width + if r.chance(8) { r.below(width) } else { 0 };
+    (0..n).map(|_| r.word()).collect()
+}
+
+/// A case of random words. Field counts and block lengths are mostly right, so that questions past them are reached, and so are
+/// opcodes.
+pub fn random(r: &mut Random) -> Case {
+    let mut c = Case {
+        types: words(r, 9, 64),
+        tags: words(r, 1, 64),
+        allocations: words(r, 2, 4096),
+        memory: words(r, 1, 16384),
+        ..Case::default()
+    };
+    let good = !r.chance(4);
+    let count = c.types.len() / 9;
+    for row in c.types.chunks_exact_mut(9).filter(|_| good) {
+        row[0] = 1 + r.below(8) as u32;
+        for f in 1..9 {
+            row[f] = if f as u32 > row[0] { 0 } else { any_type(r, count, row[0] as usize) };
+        }
+    }
+    for row in c.allocations.chunks_exact_mut(2).filter(|_| good) {
+        row[1] = r.below(count) as u32;
+    }
+    c.blocks = words(r, 9, 256);
+    let mut length = 0;
+    for row in c.blocks.chunks_exact_mut(9).filter(|_| good) {
+        row[0] = 1 + r.below(32) as u32;
+        length += row[0] as usize;
+        for w in &mut row[1..] {
+            *w = if r.chance(40) { *w } else { any_type(r, count, 8) };
+        }
+    }
+    c.code = if good { (0..length).map(|_| r.word() & 0x77_ffff | (r.below(14) as u32) << 24).collect() } else { words(r, 1, 8192) };
+    c.block = if r.chance(4) { r.word() } else { r.below(6) as u32 };
+    c.registers = std::array::from_fn(|_| r.word());
+    c.budget = r.below(64) as u64;
     c
 }
 

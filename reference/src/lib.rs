@@ -2,7 +2,9 @@
 
 pub mod checks;
 pub mod generate;
+pub mod hunt;
 pub mod machine;
+pub mod protocol;
 pub mod reading;
 pub mod tables;
 
@@ -29,3 +31,51 @@ pub fn verdict(asked: Asked) -> Verdict {
 
 pub use checks::{check, entry_check, memory_check};
 pub use machine::{run, RunAnswer};
+
+/// The four calls, so that one test can be put to more than one implementation.
+#[allow(clippy::too_many_arguments)]
+pub trait Loader {
+    fn check(types: &[u32], tags: &[u32], blocks: &[u32], code: &[u32]) -> Verdict;
+    fn memory_check(types: &[u32], tags: &[u32], allocations: &[u32], memory: &[u32]) -> Verdict;
+    fn entry_check(
+        types: &[u32],
+        tags: &[u32],
+        allocations: &[u32],
+        memory: &[u32],
+        blocks: &[u32],
+        code: &[u32],
+        block: u32,
+        registers: [u32; 8],
+    ) -> Verdict;
+    fn run(blocks: &[u32], code: &[u32], memory: &mut [u32], block: u32, registers: [u32; 8], budget: u64) -> RunAnswer;
+}
+
+/// The plain implementation.
+pub struct Plain;
+
+impl Loader for Plain {
+    fn check(types: &[u32], tags: &[u32], blocks: &[u32], code: &[u32]) -> Verdict {
+        check(types, tags, blocks, code)
+    }
+
+    fn memory_check(types: &[u32], tags: &[u32], allocations: &[u32], memory: &[u32]) -> Verdict {
+        memory_check(types, tags, allocations, memory)
+    }
+
+    fn entry_check(
+        types: &[u32],
+        tags: &[u32],
+        allocations: &[u32],
+        memory: &[u32],
+        blocks: &[u32],
+        code: &[u32],
+        block: u32,
+        registers: [u32; 8],
+    ) -> Verdict {
+        entry_check(types, tags, allocations, memory, blocks, code, block, registers)
+    }
+
+    fn run(blocks: &[u32], code: &[u32], memory: &mut [u32], block: u32, registers: [u32; 8], budget: u64) -> RunAnswer {
+        run(blocks, code, memory, block, registers, budget)
+    }
+}

@@ -1,0 +1,97 @@
+//! A hunt for a broken promise: accepted routines take turns over one memory that passed its check, and both checks are asked again
+//! after every turn, mostly of one block.
+
+use crate::generate::{another, case, Case, Random};
+use crate::protocol::line;
+use crate::Loader;
+use std::fmt::Write;
+
+/// What a hunt has seen.
+#[derive(Clone, Copy, Default)]
+pub struct Seen {
+    /// routines accepted, with memory and registers that passed
+    pub routines: u64,
+    pub turns: u64,
+    /// memories that the routines changed
+    pub changed: u64,
+}
+
+/// Whether c's registers meet its block's annotation over a memory.
+fn entered<L: Loader>(c: &Case, memory: &[u32]) -> bool {
+    L::entry_check(&c.types, &c.tags, &c.allocations, memory, &c.blocks, &c.code, c.block, c.registers).number == 0
+}
+
+fn fits<L: Loader>(c: &Case, memory: &[u32]) -> bool {
+    L::memory_check(&c.types, &c.tags, &c.allocations, memory).number == 0
+}
+
+/// The memory with each word inside a record replaced by 0.
+fn outside(c: &Case, memory: &[u32]) -> Vec<u32> {
+    let mut rest = memory.to_vec();
+    for row in c.allocations.chunks_exact(2) {
+        let (start, n) = (row[0] as usize, c.types[row[1] as usize * 9] as usize);
+        rest[start..start + n].fill(0);
+    }
+    rest
+}
+
+/// The promise that a turn of task i with a budget broke, if any; the tasks and the memory are left as the turn leaves them.
+fn turn<L: Loader>(tasks: &mut Vec<Case>, memory: &mut [u32], i: usize, budget: u64, said: &mut String) -> Option<&'static str> {
+    let before = memory.to_vec();
+    let t = &mut tasks[i];
+    let a = L::run(&t.blocks, &t.code, memory, t.block, t.registers, budget);
+    writeln!(said, "turn of {i}, budget {budget}: {a:?}, memory {memory:?}").expect("a string takes all");
+    if !matches!(a.number, 0 | 40) {
+        return Some("a turn halts or pauses");
+    }
+    if a.number == 40 && a.finished != budget || a.finished > budget {
+        return Some("a turn pauses after its budget of blocks");
+    }
+    if budget == 0 && (before != memory || a.registers != t.registers || a.block != t.block) {
+        return Some("budget 0 changes nothing");
+    }
+    if outside(t, &before) != outside(t, memory) {
+        return Some("words outside the records stay");
+    }
+    if !fits::<L>(t, memory) {
+        return Some("the records fit");
+    }
+    (t.block, t.registers) = (a.block, a.registers);
+    if a.number == 0 {
+        tasks.remove(i);
+    }
+    (!tasks.iter().all(|t| entered::<L>(t, memory))).then_some("each routine's registers fit")
+}
+
+/// Lets the accepted among some routines over c's memory take turns. An error has the whole story.
+pub fn turns<L: Loader>(r: &mut Random, c: &Case, seen: &mut Seen) -> Result<(), String> {
+    if !fits::<L>(c, &c.memory) {
+        return Ok(());
+    }
+    let mut tasks = vec![c.clone(), another(r, c), another(r, c)];
+    tasks.retain(|t| L::check(&t.types, &t.tags, &t.blocks, &t.code).number == 0 && entered::<L>(t, &t.memory));
+    seen.routines += tasks.len() as u64;
+    let start: String = tasks.iter().map(|t| line("check", t) + "\n" + &line("entry", t) + "\n").collect();
+    let mut said = line("memory", c) + "\n" + &start;
+    let mut memory = c.memory.clone();
+    for _ in 0..30 * tasks.len() {
+        if tasks.is_empty() {
+            break;
+        }
+        let i = r.below(tasks.len());
+        let budget = if r.chance(6) { r.below(5) as u64 } else { 1 };
+        if let Some(promise) = turn::<L>(&mut tasks, &mut memory, i, budget, &mut said) {
+            return Err(format!("broken: {promise}\n{said}"));
+        }
+        seen.turns += 1;
+    }
+    seen.changed += u64::from(memory != c.memory);
+    Ok(())
+}
+
+/// The case that a seed and a number give, and the random numbers that go on from there.
+pub fn numbered(seed: u64, k: u64) -> (Random, Case) {
+    let mut r = Random::new(seed.wrapping_mul(1_000_003).wrapping_add(k));
+    let c = case(&mut r);
+    (r, c)
+}
