@@ -36,11 +36,11 @@ fn outside(c: &Case, memory: &[u32]) -> Vec<u32> {
 }
 
 /// The promise that a turn of task i with a budget broke, if any; the tasks and the memory are left as the turn leaves them.
-fn turn<L: Loader>(tasks: &mut Vec<Case>, memory: &mut [u32], i: usize, budget: u64, said: &mut String) -> Option<&'static str> {
+fn turn<L: Loader>(tasks: &mut Vec<(usize, Case)>, memory: &mut [u32], i: usize, budget: u64, said: &mut String) -> Option<&'static str> {
     let before = memory.to_vec();
-    let t = &mut tasks[i];
+    let (name, t) = &mut tasks[i];
     let a = L::run(&t.blocks, &t.code, memory, t.block, t.registers, budget);
-    writeln!(said, "turn of {i}, budget {budget}: {a:?}, memory {memory:?}").expect("a string takes all");
+    writeln!(said, "turn of routine {name}, budget {budget}: {a:?}, memory {memory:?}").expect("a string takes all");
     if !matches!(a.number, 0 | 40) {
         return Some("a turn halts or pauses");
     }
@@ -60,7 +60,7 @@ fn turn<L: Loader>(tasks: &mut Vec<Case>, memory: &mut [u32], i: usize, budget: 
     if a.number == 0 {
         tasks.remove(i);
     }
-    (!tasks.iter().all(|t| entered::<L>(t, memory))).then_some("each routine's registers fit")
+    (!tasks.iter().all(|(_, t)| entered::<L>(t, memory))).then_some("each routine's registers fit")
 }
 
 /// Lets the accepted among some routines over c's memory take turns. An error has the whole story.
@@ -73,6 +73,7 @@ pub fn turns<L: Loader>(r: &mut Random, c: &Case, seen: &mut Seen) -> Result<(),
     seen.routines += tasks.len() as u64;
     let start: String = tasks.iter().map(|t| line("check", t) + "\n" + &line("entry", t) + "\n").collect();
     let mut said = line("memory", c) + "\n" + &start;
+    let mut tasks: Vec<(usize, Case)> = tasks.into_iter().enumerate().collect();
     let mut memory = c.memory.clone();
     for _ in 0..30 * tasks.len() {
         if tasks.is_empty() {
