@@ -1,5 +1,6 @@
 //! Prints a table: each call at a quarter, half and full size, the proved library beside the plain one, as the least of many
-//! interleaved rounds. Every input is first asked of both, and must get the answer that its row intends.
+//! interleaved rounds. Every input is first asked of both, and must get the answer that its row intends. `bench NAME ..` prints the
+//! rows of these names alone.
 
 use ramdulsi_comparison::Proved;
 use ramdulsi_reference::generate::Case;
@@ -89,6 +90,9 @@ fn time(which: Call, input: &Input) -> (f64, f64) {
 
 /// One line for each size; `make` gets 1, 2 and 4.
 fn rows(name: &str, unit: &str, which: Call, make: impl Fn(usize) -> Input) {
+    if std::env::args().len() > 1 && !std::env::args().skip(1).any(|wanted| wanted == name) {
+        return;
+    }
     let mut quarter = 0.0;
     for (size, part) in [("quarter", 1), ("half", 2), ("full", 4)] {
         let input = make(part);
