@@ -32,16 +32,31 @@ pub struct Asked {
 }
 
 fn cell(out: &mut [u8; 65536], n: usize, row: u32, a: Asked) -> usize {
+    if row == 0 {
+        return rows::outcomes(out, n, row, a);
+    }
+    if row < 4 {
+        return rows::types(out, n, row, a);
+    }
     if row < 7 {
         return rows::tables(out, n, row, a);
     }
+    if row < 10 {
+        return rows::forms(out, n, row, a);
+    }
+    if row < 13 {
+        return rows::accesses(out, n, row, a);
+    }
     if row < 16 {
-        return rows::code(out, n, row, a);
+        return rows::ends(out, n, row, a);
+    }
+    if row < 19 {
+        return rows::runs(out, n, row, a);
     }
     if row <= LAST {
         return rows::states(out, n, row, a);
     }
-    rows::others(out, n, row, a)
+    rows::outcomes(out, n, row, a)
 }
 
 // A column of a row; nothing for a number that is no answer.

@@ -33,20 +33,8 @@ fn column(out: &mut [u8; 65536], n: usize, a: Asked, row: &[u8]) -> usize {
     at
 }
 
-// Numbers 0 to 6: the tables.
-pub fn tables(out: &mut [u8; 65536], n: usize, row: u32, a: Asked) -> usize {
-    if row == 0 {
-        return column(
-            out,
-            n,
-            a,
-            b"passed|\
-              no question of the check has a no|\
-              tables, memory and registers are as they should be|\
-              nothing to mend: make the next check, or run|\
-              0, 0",
-        );
-    }
+// The lengths of tables, and record types.
+pub fn types(out: &mut [u8; 65536], n: usize, row: u32, a: Asked) -> usize {
     if row == 1 {
         return column(
             out,
@@ -86,6 +74,11 @@ pub fn tables(out: &mut [u8; 65536], n: usize, row: u32, a: Asked) -> usize {
               type row A",
         );
     }
+    n
+}
+
+// Tags, blocks, annotations.
+pub fn tables(out: &mut [u8; 65536], n: usize, row: u32, a: Asked) -> usize {
     if row == 4 {
         return column(
             out,
@@ -128,8 +121,8 @@ pub fn tables(out: &mut [u8; 65536], n: usize, row: u32, a: Asked) -> usize {
     n
 }
 
-// Numbers 7 to 15: the code.
-pub fn code(out: &mut [u8; 65536], n: usize, row: u32, a: Asked) -> usize {
+// The form of an instruction.
+pub fn forms(out: &mut [u8; 65536], n: usize, row: u32, a: Asked) -> usize {
     if row == 7 {
         return column(
             out,
@@ -167,6 +160,11 @@ pub fn code(out: &mut [u8; 65536], n: usize, row: u32, a: Asked) -> usize {
               block A, code index B",
         );
     }
+    n
+}
+
+// Loads and stores.
+pub fn accesses(out: &mut [u8; 65536], n: usize, row: u32, a: Asked) -> usize {
     if row == 10 {
         return column(
             out,
@@ -203,6 +201,11 @@ pub fn code(out: &mut [u8; 65536], n: usize, row: u32, a: Asked) -> usize {
               block A, code index B",
         );
     }
+    n
+}
+
+// The end of a block.
+pub fn ends(out: &mut [u8; 65536], n: usize, row: u32, a: Asked) -> usize {
     if row == 13 {
         return column(
             out,
@@ -242,8 +245,8 @@ pub fn code(out: &mut [u8; 65536], n: usize, row: u32, a: Asked) -> usize {
     n
 }
 
-// Numbers 16 to 22: where a run starts, memory, registers.
-pub fn states(out: &mut [u8; 65536], n: usize, row: u32, a: Asked) -> usize {
+// Where a run starts, what it may reach.
+pub fn runs(out: &mut [u8; 65536], n: usize, row: u32, a: Asked) -> usize {
     if row == 16 {
         return column(
             out,
@@ -280,6 +283,11 @@ pub fn states(out: &mut [u8; 65536], n: usize, row: u32, a: Asked) -> usize {
               block A, code index B",
         );
     }
+    n
+}
+
+// Memory and registers; the code index.
+pub fn states(out: &mut [u8; 65536], n: usize, row: u32, a: Asked) -> usize {
     if row == 19 {
         return column(
             out,
@@ -332,8 +340,20 @@ pub fn states(out: &mut [u8; 65536], n: usize, row: u32, a: Asked) -> usize {
     n
 }
 
-// A run that did not stop at a question, and a line without one.
-pub fn others(out: &mut [u8; 65536], n: usize, row: u32, a: Asked) -> usize {
+// Where no question has a no, and a line that is no request.
+pub fn outcomes(out: &mut [u8; 65536], n: usize, row: u32, a: Asked) -> usize {
+    if row == 0 {
+        return column(
+            out,
+            n,
+            a,
+            b"passed|\
+              no question of the check has a no|\
+              tables, memory and registers are as they should be|\
+              nothing to mend: make the next check, or run|\
+              0, 0",
+        );
+    }
     if row == 40 {
         return column(
             out,
