@@ -189,6 +189,7 @@ pub fn memory_check(types: &[u32], tags: &[u32], allocations: &[u32], memory: &[
     verdict(memory_asked(Types { rows: types, tags }, allocations, memory))
 }
 
+#[allow(clippy::too_many_arguments)]
 pub fn entry_check(
     types: &[u32],
     tags: &[u32],

@@ -11,7 +11,7 @@ impl Random {
         Random(seed.wrapping_mul(0x9e37_79b9_7f4a_7c15) ^ 0x2545_f491_4f6c_dd1d)
     }
 
-    pub fn next(&mut self) -> u64 {
+    pub fn draw(&mut self) -> u64 {
         self.0 ^= self.0 << 13;
         self.0 ^= self.0 >> 7;
         self.0 ^= self.0 << 17;
@@ -20,7 +20,7 @@ impl Random {
 
     /// A number below n.
     pub fn below(&mut self, n: usize) -> usize {
-        ((self.next() >> 33) % n.max(1) as u64) as usize
+        ((self.draw() >> 33) % n.max(1) as u64) as usize
     }
 
     pub fn chance(&mut self, one_in: usize) -> bool {
@@ -37,7 +37,7 @@ impl Random {
             0 => self.below(4) as u32,
             1 => self.below(64) as u32,
             2 => self.pick(&[u32::MAX, 1 << 31, (1 << 31) - 1, 1 << 24, 65535, 65536, 16384, 16383]),
-            _ => self.next() as u32,
+            _ => self.draw() as u32,
         }
     }
 }

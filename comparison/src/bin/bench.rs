@@ -69,44 +69,74 @@ struct Input {
     answer: (u32, u32, u32),
 }
 
-/// Microseconds of each side, the least of many rounds.
-fn time(which: Call, input: &Input) -> (f64, f64) {
-    let c = &input.case;
-    let (mut left, mut right) = (c.memory.clone(), c.memory.clone());
-    assert_eq!(call::<Proved>(which, c, &mut left), input.answer, "proved");
-    assert_eq!(call::<Plain>(which, c, &mut right), input.answer, "plain");
-    assert_eq!(left, right);
-    let mut least = (f64::MAX, f64::MAX);
+/// Microseconds of each side at each size, the least of many rounds; a round takes all in turn.
+fn times(which: Call, inputs: &[Input; 3]) -> [(f64, f64); 3] {
+    let mut left = inputs.each_ref().map(|input| input.case.memory.clone());
+    let mut right = left.clone();
+    let mut least = [(f64::MAX, f64::MAX); 3];
+    for (i, input) in inputs.iter().enumerate() {
+        assert_eq!(call::<Proved>(which, &input.case, &mut left[i]), input.answer, "proved");
+        assert_eq!(call::<Plain>(which, &input.case, &mut right[i]), input.answer, "plain");
+        assert_eq!(left[i], right[i]);
+    }
     for _ in 0..ROUNDS {
-        let t = Instant::now();
-        black_box(call::<Proved>(which, black_box(c), &mut left));
-        least.0 = least.0.min(t.elapsed().as_secs_f64() * 1e6);
-        let t = Instant::now();
-        black_box(call::<Plain>(which, black_box(c), &mut right));
-        least.1 = least.1.min(t.elapsed().as_secs_f64() * 1e6);
+        for (i, Input { case, .. }) in inputs.iter().enumerate() {
+            let t = Instant::now();
+            black_box(call::<Proved>(which, black_box(case), &mut left[i]));
+            least[i].0 = least[i].0.min(t.elapsed().as_secs_f64() * 1e6);
+            let t = Instant::now();
+            black_box(call::<Plain>(which, black_box(case), &mut right[i]));
+            least[i].1 = least[i].1.min(t.elapsed().as_secs_f64() * 1e6);
+        }
     }
     least
 }
 
-/// One line for each size; `make` gets 1, 2 and 4.
-fn rows(name: &str, unit: &str, which: Call, make: impl Fn(usize) -> Input) {
-    if std::env::args().len() > 1 && !std::env::args().skip(1).any(|wanted| wanted == name) {
-        return;
-    }
-    let mut quarter = 0.0;
-    for (size, part) in [("quarter", 1), ("half", 2), ("full", 4)] {
-        let input = make(part);
-        let (proved, plain) = time(which, &input);
-        if part == 1 {
-            quarter = proved;
+/// What was printed: of each line its name and size, the ratio, and at full size the growth.
+#[derive(Default)]
+struct Table {
+    ratios: Vec<(f64, String)>,
+    growths: Vec<(f64, String)>,
+}
+
+impl Table {
+    /// One line for each size; `make` gets 1, 2 and 4.
+    fn rows(&mut self, name: &str, unit: &str, which: Call, make: impl Fn(usize) -> Input) {
+        if std::env::args().len() > 1 && !std::env::args().skip(1).any(|wanted| wanted == name) {
+            return;
         }
-        let each = |us: f64| us * 1000.0 / input.units as f64;
-        let (ratio, growth) = (proved / plain, proved / quarter);
+        let inputs = [1, 2, 4].map(make);
+        let times = times(which, &inputs);
+        for (i, (proved, plain)) in times.into_iter().enumerate() {
+            let size = ["quarter", "half", "full"][i];
+            let each = |us: f64| us * 1000.0 / inputs[i].units as f64;
+            let (ratio, growth) = (proved / plain, proved / times[0].0);
+            let (own, other) = (each(proved), each(plain));
+            println!("| {name} | {size} | {proved:.1} | {plain:.1} | {ratio:.2} | {own:.1} | {other:.1} | {unit} | {growth:.2} |");
+            self.ratios.push((ratio, format!("{name}, {size}")));
+        }
+        self.growths.push((times[2].0 / times[0].0, name.to_string()));
+    }
+
+    fn summary(&mut self) {
+        for list in [&mut self.ratios, &mut self.growths] {
+            list.sort_by(|a, b| a.0.total_cmp(&b.0));
+        }
+        let count = |limit: f64| self.ratios.iter().filter(|r| r.0 <= limit).count();
+        let (Some(least), Some(most), Some(steepest)) = (self.ratios.first(), self.ratios.last(), self.growths.last()) else {
+            return;
+        };
+        let (all, middle) = (self.ratios.len(), self.ratios[self.ratios.len() / 2].0);
         println!(
-            "| {name} | {size} | {proved:.1} | {plain:.1} | {ratio:.2} | {:.1} | {:.1} | {unit} | {growth:.2} |",
-            each(proved),
-            each(plain)
+            "\nRatio: {:.2} ({}) to {:.2} ({}), median {middle:.2}; {} of {all} lines at most 1.0, {} at most 1.5.",
+            least.0,
+            least.1,
+            most.0,
+            most.1,
+            count(1.0),
+            count(1.5)
         );
+        println!("Growth from a quarter to full size: at most {:.2} ({}).", steepest.0, steepest.1);
     }
 }
 
@@ -135,14 +165,14 @@ fn body(one: impl Fn(u32) -> u32) -> Vec<u32> {
 }
 
 /// The check of a routine of 256 blocks of 32 instructions.
-fn straight(name: &str, types: &[Vec<u32>], tags: &[u32], annotation: &[u32], body: &[u32]) {
-    rows(name, "instruction", Call::Check, |part| {
+fn straight(table: &mut Table, name: &str, types: &[Vec<u32>], tags: &[u32], annotation: &[u32], body: &[u32]) {
+    table.rows(name, "instruction", Call::Check, |part| {
         let case = Case { types: types.concat(), tags: tags.to_vec(), ..routine(64 * part, annotation, body, onward) };
         Input { units: case.code.len(), case, answer: (0, 0, 0) }
     });
 }
 
-fn checks() {
+fn checks(table: &mut Table) {
     let any = row(8, &[]);
     let mixed = row(
         8,
@@ -152,14 +182,14 @@ fn checks() {
     let annotation = [ty(REF, 1, 0, 0), ty(REF, 0, 0, 0)];
     let arithmetic = body(|i| ins(3, 2 + i % 5, 2, 3));
     let loads = body(|i| ins(8, 2 + i % 5, i & 1, i % 8));
-    straight("check, arithmetic", &types, &[0, 1], &annotation, &arithmetic);
-    straight("check, loads", &types, &[0, 1], &annotation, &loads);
-    straight("check, stores to eight Any fields", &types, &[0, 1], &annotation, &body(|i| ins(9, 2, 1, i % 8)));
+    straight(table, "check, arithmetic", &types, &[0, 1], &annotation, &arithmetic);
+    straight(table, "check, loads", &types, &[0, 1], &annotation, &loads);
+    straight(table, "check, stores to eight Any fields", &types, &[0, 1], &annotation, &body(|i| ins(9, 2, 1, i % 8)));
     let back = |i: u32| ins(8 + i % 2, 2, 0, i / 2 % 8);
-    straight("check, loads and stores, eight mixed fields", &types, &[0, 1], &annotation, &body(back));
+    straight(table, "check, loads and stores, eight mixed fields", &types, &[0, 1], &annotation, &body(back));
 
     let eight = row(8, &[ty(IN, 0, constant(1), constant(9)); 8]);
-    straight("check, loads and stores, eight run fields", &[any.clone(), eight], &[], &annotation, &body(back));
+    straight(table, "check, loads and stores, eight run fields", &[any.clone(), eight], &[], &annotation, &body(back));
 
     // the last field misfits until the last store, so each store between asks all fields; bounds are known by constants alone
     let open = |i: u32, other: u32| match i {
@@ -171,14 +201,14 @@ fn checks() {
     let field = ty(IN, 0, 0, 1);
     let runs = row(8, &[low, high, field, field, field, field, field, ty(REF, 0, 0, 0)]);
     let annotation = [ty(REF, 1, 0, 0), ty(REF, 0, 0, 0), ty(IN, 0, 3, 4), low, high];
-    straight("check, stores to an open record, run fields", &[any.clone(), runs], &[], &annotation, &body(|i| open(i, 2 + i % 5)));
+    straight(table, "check, stores to an open record, run fields", &[any.clone(), runs], &[], &annotation, &body(|i| open(i, 2 + i % 5)));
     let (tagged, present) = (ty(TAGGED, 0, constant(0), 0), ty(PRESENT, 0, constant(0), 0));
     let tags = row(8, &[tagged, present, tagged, present, tagged, present, tagged, ty(REF, 0, 0, 0)]);
     let annotation = [ty(REF, 1, 0, 0), ty(REF, 0, 0, 0), ty(REF, 0, 0, 0)];
-    straight("check, stores to an open record, tagged fields", &[any.clone(), tags], &[0], &annotation, &body(|i| open(i, i % 7)));
+    straight(table, "check, stores to an open record, tagged fields", &[any.clone(), tags], &[0], &annotation, &body(|i| open(i, i % 7)));
 
-    edges(&any);
-    rows("check, loads, refused at the last instruction", "instruction", Call::Check, |part| {
+    edges(table, &any);
+    table.rows("check, loads, refused at the last instruction", "instruction", Call::Check, |part| {
         let n = 64 * part;
         let mut case =
             Case { types: types.concat(), tags: vec![0, 1], ..routine(n, &[ty(REF, 1, 0, 0), ty(REF, 0, 0, 0)], &loads, onward) };
@@ -189,7 +219,7 @@ fn checks() {
 }
 
 /// Blocks of a test with two edges, every register typed.
-fn edges(any: &[u32]) {
+fn edges(table: &mut Table, any: &[u32]) {
     let test = |b: usize, last: bool| if last { 0 } else { ins(12, 2, 3, b as u32) };
     // six registers and the bounds themselves, named r0 and r1
     let field = ty(IN, 0, 0, 1);
@@ -200,7 +230,7 @@ fn edges(any: &[u32]) {
     for (name, annotation, body) in
         [("check, edges, eight run registers", eight, &[][..]), ("check, edges, bounds known by constants", six, &anew[..])]
     {
-        rows(name, "edge", Call::Check, |part| {
+        table.rows(name, "edge", Call::Check, |part| {
             let case = Case { types: any.to_vec(), ..routine(64 * part, &annotation, body, test) };
             Input { units: 2 * (64 * part - 1), case, answer: (0, 0, 0) }
         });
@@ -219,20 +249,20 @@ fn records(n: usize, types: &[Vec<u32>], t: usize, from: usize, words: impl Fn(u
 }
 
 /// The memory check of 2,047 records of eight words: word 0 is in no record, so one more does not fit.
-fn memory(name: &str, fields: &[u32], words: impl Fn(usize, usize) -> [u32; 8]) {
-    rows(name, "record", Call::Memory, |part| {
+fn memory(table: &mut Table, name: &str, fields: &[u32], words: impl Fn(usize, usize) -> [u32; 8]) {
+    table.rows(name, "record", Call::Memory, |part| {
         let n = 512 * part - 1;
         let case = records(n, &[row(8, fields)], 0, 8, |k| words(n, k).to_vec());
         Input { units: n, case, answer: (0, 0, 0) }
     });
 }
 
-fn memories() {
-    memory("memory check, eight Any fields", &[], |_, _| [1, 2, 3, 4, 5, 6, 7, 8]);
+fn memories(table: &mut Table) {
+    memory(table, "memory check, eight Any fields", &[], |_, _| [1, 2, 3, 4, 5, 6, 7, 8]);
     let fields = [ty(REF, 0, 0, 0), ty(MAYBE, 0, 0, 0)].repeat(4);
     // each record refers to eight that lie apart
     let apart = |n: usize, k: usize| std::array::from_fn(|f| 8 + 8 * ((k * 769 + f * 331) % n) as u32);
-    memory("memory check, eight reference fields", &fields, apart);
+    memory(table, "memory check, eight reference fields", &fields, apart);
     let fields = [
         0,
         ty(TAGGED, 0, 0, 0),
@@ -243,30 +273,31 @@ fn memories() {
         ty(PRESENT, 0, 0, 0),
         ty(TAGGED, 0, 0, 0),
     ];
-    memory("memory check, seven tagged fields of eight", &fields, |n, k| {
+    memory(table, "memory check, seven tagged fields of eight", &fields, |n, k| {
         let mut words = apart(n, k);
         words[0] = 0;
         words
     });
-    // from each record the run that starts there and ends with the memory
-    let run = |n: usize, k: usize| {
-        let (d, e) = (8 + 8 * k as u32, 8 + 8 * n as u32);
-        [d, e, d, d, e - 8, d, d, e - 8]
+    // a run from some record to the last, and places in it
+    let run = |n: usize, first: usize, k: usize| {
+        let (d, e, own) = (8 + 8 * first as u32, 8 + 8 * n as u32, 8 + 8 * k as u32);
+        [d, e, own, d, e - 8, own, d, e - 8]
     };
     let (field, from, any) = (ty(IN, 0, 0, 1), ty(FROM, 0, 0, 1), ty(RUN, 0, 0, 1));
-    memory("memory check, six run fields of eight", &[0, 0, field, from, any, field, from, any], run);
+    memory(table, "memory check, six run fields of eight", &[0, 0, field, from, any, field, from, any], |n, k| run(n, 0, k));
     // the bounds are run fields too: the start is In its own run, and the end From its start
     let eight = [field, from, field, field, field, field, field, field];
-    memory("memory check, eight run fields", &eight, run);
-    rows("memory check, eight run fields, refused at the last", "record", Call::Memory, |part| {
+    memory(table, "memory check, eight run fields", &eight, |n, k| run(n, 0, k));
+    memory(table, "memory check, eight run fields, a run from each record", &eight, |n, k| run(n, k, k));
+    table.rows("memory check, eight run fields, refused at the last", "record", Call::Memory, |part| {
         let n = 512 * part - 1;
-        let mut case = records(n, &[row(8, &eight)], 0, 8, |k| run(n, k).to_vec());
+        let mut case = records(n, &[row(8, &eight)], 0, 8, |k| run(n, 0, k).to_vec());
         *case.memory.last_mut().expect("records") += 1;
         Input { units: n, case, answer: (20, n as u32 - 1, 7) }
     });
 }
 
-fn entries() {
+fn entries(table: &mut Table) {
     // records of one word, the most that there can be; a full routine
     let long = |part: usize, annotation: &[u32], registers: fn(u32) -> [u32; 8]| {
         let n = 1024 * part;
@@ -276,24 +307,24 @@ fn entries() {
     };
     let field = ty(IN, 0, 0, 1);
     let eight = [field, ty(FROM, 0, 0, 1), field, field, field, field, field, field];
-    rows("entry check, one run register", "allocation", Call::Entry, |part| {
+    table.rows("entry check, one run register", "allocation", Call::Entry, |part| {
         let case = long(part, &[ty(IN, 0, 1, 2), 0, 0, ty(REF, 0, 0, 0)], |end| [1, 1, end, 7, 0, 0, 0, 0]);
         Input { units: 1024 * part, case, answer: (0, 0, 0) }
     });
-    rows("entry check, eight run registers", "allocation", Call::Entry, |part| {
+    table.rows("entry check, eight run registers", "allocation", Call::Entry, |part| {
         let case = long(part, &eight, |end| [1, end, 1, 2, 3, end - 1, end - 2, end - 3]);
         Input { units: 1024 * part, case, answer: (0, 0, 0) }
     });
-    rows("entry check, eight run registers, refused at the last", "allocation", Call::Entry, |part| {
+    table.rows("entry check, eight run registers, refused at the last", "allocation", Call::Entry, |part| {
         let case = long(part, &eight, |end| [1, end, 1, 2, 3, end - 1, end - 2, end]);
         Input { units: 1024 * part, case, answer: (21, 7, 0) }
     });
 }
 
-fn runs() {
+fn runs(table: &mut Table) {
     // a loop over records of two words: load, multiply, divide, store, move on, test
     let work = [ins(8, 2, 1, 0), ins(5, 2, 2, 4), ins(6, 2, 2, 86), ins(9, 2, 1, 1), ins(7, 1, 1, 2)];
-    rows("run, load multiply divide store", "instruction", Call::Run, |part| {
+    table.rows("run, load multiply divide store", "instruction", Call::Run, |part| {
         let n = 2048 * part - 1;
         let mut case = routine(1, &[], &work, |_, _| ins(12, 1, 3, 0));
         case.blocks.extend(row(1, &[]));
@@ -307,19 +338,19 @@ fn runs() {
     let arithmetic = body(|i| ins(3 + i % 3, 2 + i % 5, 2, 3));
     let copies = body(|i| ins(8 + i % 2, 2 + i % 5, 1, i % 8));
     for (name, body) in [("run, arithmetic", &arithmetic), ("run, loads and stores", &copies)] {
-        rows(name, "instruction", Call::Run, |part| {
+        table.rows(name, "instruction", Call::Run, |part| {
             let budget = 256 * part as u64;
             let case = Case { memory: vec![0; 64], budget, registers: [1, 2, 3, 4, 5, 6, 7, 8], ..routine(2, &[], body, turns) };
             Input { units: 32 * budget as usize, case, answer: (40, 0, 0) }
         });
     }
-    rows("run, jumps alone", "block", Call::Run, |part| {
+    table.rows("run, jumps alone", "block", Call::Run, |part| {
         let n = 64 * part;
         let mut case = routine(n, &[], &[], |b, last| ins(10, 0, 0, if last { 0 } else { b as u32 + 1 }));
         (case.memory, case.budget) = (vec![0], 16 * n as u64);
         Input { units: 16 * n, case, answer: (40, 0, 0) }
     });
-    rows("run, budget 0", "block of the table", Call::Run, |part| {
+    table.rows("run, budget 0", "block of the table", Call::Run, |part| {
         let case = Case { memory: vec![0; 64], ..routine(64 * part, &[], &arithmetic, onward) };
         Input { units: 64 * part, case, answer: (40, 0, 0) }
     });
@@ -328,8 +359,10 @@ fn runs() {
 fn main() {
     println!("| call | size | proved us | plain us | ratio | proved ns | plain ns | for each | growth |");
     println!("|---|---|---|---|---|---|---|---|---|");
-    checks();
-    memories();
-    entries();
-    runs();
+    let mut table = Table::default();
+    checks(&mut table);
+    memories(&mut table);
+    entries(&mut table);
+    runs(&mut table);
+    table.summary();
 }
