@@ -94,37 +94,37 @@ pub fn check(types: &[u32], tags: &[u32], blocks: &[u32], code: &[u32]) -> Verdi
 
 // ---- allocations and meanings
 
-/// By address: the row of the record that starts there, counted from 1; and by row, where the records of its type that follow
-/// each other from there on end.
-struct Owners<'a> {
-    allocations: &'a [u32],
-    rows: Vec<u16>,
+/// By address: the type of the record that starts there, and where the records of its type that follow each other from there on end.
+struct Owners {
+    types: Vec<u8>,
     ends: Vec<u16>,
 }
 
-impl<'a> Owners<'a> {
-    fn new(types: Types, allocations: &'a [u32], top: usize) -> Self {
-        let mut rows = vec![0; top];
-        let mut ends = vec![0; allocations.len() / 2];
+/// No type: there are at most 64.
+const FREE: u8 = u8::MAX;
+
+impl Owners {
+    fn new(types: Types, allocations: &[u32], top: usize) -> Self {
+        let mut owners = Owners { types: vec![FREE; top], ends: vec![0; top] };
         let mut next = (usize::MAX, 0, 0);
-        for (r, row) in allocations.chunks_exact(2).enumerate().rev() {
+        for row in allocations.chunks_exact(2).rev() {
             let (start, t) = (row[0] as usize, row[1]);
             let end = start + types.size(t as usize);
-            ends[r] = if next.0 == end && next.1 == t { next.2 } else { end as u16 };
-            rows[start] = r as u16 + 1;
-            next = (start, t, ends[r]);
+            let last = if next.0 == end && next.1 == t { next.2 } else { end as u16 };
+            owners.types[start] = t as u8;
+            owners.ends[start] = last;
+            next = (start, t, last);
         }
-        Owners { allocations, rows, ends }
-    }
-
-    /// The row of the record of type t that starts at p.
-    fn row(&self, p: u32, t: usize) -> Option<usize> {
-        let r = usize::from(*self.rows.get(p as usize)?).checked_sub(1)?;
-        (self.allocations[2 * r + 1] as usize == t).then_some(r)
+        owners
     }
 
     fn is(&self, p: u32, t: usize) -> bool {
-        self.row(p, t).is_some()
+        self.types.get(p as usize).is_some_and(|&o| usize::from(o) == t)
+    }
+
+    /// Whether records of type t follow each other from d to e.
+    fn follow(&self, d: u32, e: u32, t: usize) -> bool {
+        self.is(d, t) && e <= u32::from(self.ends[d as usize])
     }
 }
 
@@ -141,8 +141,7 @@ fn meets(types: Types, owners: &Owners, w: u32, words: &[u32], p: u32) -> bool {
         SAME => p == at(first(w)),
         k => {
             let (d, e, n) = (at(first(w)), at(second(w)), types.size(t) as u32);
-            let run =
-                d < e && owners.row(d, t).is_some_and(|r| e <= u32::from(owners.ends[r])) && (e - d) % n == 0 && p.wrapping_sub(d) % n == 0;
+            let run = d < e && owners.follow(d, e, t) && (e - d) % n == 0 && p.wrapping_sub(d) % n == 0;
             run && (k == RUN || d <= p) && (k != IN || p < e)
         }
     }
