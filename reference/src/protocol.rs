@@ -77,6 +77,15 @@ pub enum Answer {
     Ran(RunAnswer, Vec<u32>),
 }
 
+impl Answer {
+    pub fn number(&self) -> u32 {
+        match self {
+            Answer::Verdict(v) => v.number,
+            Answer::Ran(a, _) => a.number,
+        }
+    }
+}
+
 /// The answer's line.
 impl fmt::Display for Answer {
     fn fmt(&self, f: &mut fmt::Formatter) -> fmt::Result {

@@ -7,25 +7,33 @@ use ramdulsi_reference::generate::{change, random, Case};
 use ramdulsi_reference::hunt::{numbered, turns, Seen};
 use ramdulsi_reference::protocol::{answer, line, REQUESTS};
 use ramdulsi_reference::Plain;
+use std::collections::BTreeSet;
 use std::time::{Duration, Instant, SystemTime, UNIX_EPOCH};
 
-/// What the two libraries answer differently about a case.
-fn difference(c: &Case) -> Option<String> {
-    REQUESTS.iter().find_map(|request| {
+/// Of each request the answer numbers that occurred.
+type Numbers = [BTreeSet<u32>; 4];
+
+/// Puts a case to both libraries; an error shows the first request that they answer differently.
+fn same(c: &Case, numbers: &mut Numbers) -> Result<(), String> {
+    for (request, seen) in REQUESTS.into_iter().zip(numbers) {
         let (a, b) = (answer::<Proved>(request, c), answer::<Plain>(request, c));
-        (a != b).then(|| format!("the answers differ\n{}\nproved: {a}\nplain:  {b}", line(request, c)))
-    })
+        if a != b {
+            return Err(format!("the answers differ\n{}\nproved: {a}\nplain:  {b}", line(request, c)));
+        }
+        seen.insert(a.number());
+    }
+    Ok(())
 }
 
 /// One case of a seed: the case as it is, changed three times, and a random one.
-fn compare(seed: u64, k: u64, seen: &mut Seen) -> Result<(), String> {
+fn compare(seed: u64, k: u64, seen: &mut Seen, numbers: &mut Numbers) -> Result<(), String> {
     let (mut r, mut c) = numbered(seed, k);
     turns::<Proved>(&mut r, &c, seen)?;
     for _ in 0..4 {
-        difference(&c).map_or(Ok(()), Err)?;
+        same(&c, numbers)?;
         change(&mut r, &mut c);
     }
-    difference(&random(&mut r)).map_or(Ok(()), Err)
+    same(&random(&mut r), numbers)
 }
 
 fn main() {
@@ -36,10 +44,10 @@ fn main() {
     let limit = Duration::from_secs(words.next().unwrap_or(u64::MAX));
     println!("compare: seed {seed}");
     let began = Instant::now();
-    let mut seen = Seen::default();
+    let (mut seen, mut numbers) = (Seen::default(), Numbers::default());
     let mut k = 0;
     while k < cases && began.elapsed() < limit {
-        if let Err(what) = compare(seed, k, &mut seen) {
+        if let Err(what) = compare(seed, k, &mut seen, &mut numbers) {
             println!("seed {seed}, case {k}: {what}");
             std::process::exit(1);
         }
@@ -47,5 +55,9 @@ fn main() {
     }
     let Seen { routines, turns, changed } = seen;
     println!("compare: {k} cases in {} s, {} answers alike", began.elapsed().as_secs(), 20 * k);
+    for (request, seen) in REQUESTS.iter().zip(numbers) {
+        let all: String = seen.iter().map(|n| format!(" {n}")).collect();
+        println!("compare: numbers of {request}:{all}");
+    }
     println!("compare: {routines} accepted routines took {turns} turns over checked memory, {changed} memories changed, all safe");
 }
