@@ -18,7 +18,8 @@ use Rattle.model.specs.Table.{wholeRows, typeLengthsAsk, codeLengthsAsk}
 use Rattle.model.specs.Table.{wellMade, headOf, wordsOf, rows, tablesOf, countAsk, fieldWell, fieldsAsk, tagAsk, typesAsk}
 use Rattle.model.specs.Table.{startOf, routineOf, blocksAsk, lengthsAsk, annotationWell, annotationAsk, annotationsAsk}
 use Rattle.table.specs.Row.{placeWell}
-use Rattle.table.proofs.Laws.{recordPart, dependencyPart, lengthWell, start-none}
+use Rattle.model.proofs.Logic.{pick-true}
+use Rattle.table.proofs.Laws.{recordPart, dependencyPart, lengthWell, start-none, uses-span}
 use Rattle.table.proofs.Questions.{left, then-on, then-stops}
 
 -- ---- Q1
@@ -99,9 +100,36 @@ module _ (count n w k : ℕ) (ek : k ≡ kindOf w) where
       unfolding wellMade _and_
       well-first l = rw (← ek, ← et, ← ex, le-leb k 8 h, e, l)
 
+      pub well-unused : dependencyPart (leb 3 k) n x ≡ true → k < 6 → (y : ℕ) → y ≡ secondOf w → eqb y 0 ≡ wellMade count n w
+      unfolding wellMade _and_
+      well-unused l m y ey = rw (← ek, ← et, ← ex, ← ey, le-leb k 8 h, e, l, lt-leb 6 k m)
+
       pub well-second : dependencyPart (leb 3 k) n x ≡ true → (y : ℕ) → y ≡ secondOf w → dependencyPart (leb 6 k) n y ≡ wellMade count n w
       unfolding wellMade _and_
       well-second l y ey = rw (← ek, ← et, ← ex, ← ey, le-leb k 8 h, e, l)
+
+-- a span uses each part
+module _ (count n w : ℕ) (l : 6 ≤ kindOf w) (h : kindOf w ≤ 8) (t : ℕ) (et : t ≡ recordOf w) where
+  record-used : recordPart count (kindOf w) t ≡ ltb t count
+  record-used = pick-true _ _ _ (sym (uses-span (kindOf w) l))
+
+  first-used : (x : ℕ) → dependencyPart (leb 3 (kindOf w)) n x ≡ dependencyPart true n x
+  first-used x = rw (le-leb 3 (kindOf w) (omega arith))
+
+  second-used : (y : ℕ) → dependencyPart (leb 6 (kindOf w)) n y ≡ dependencyPart true n y
+  second-used y = rw (le-leb 6 (kindOf w) l)
+
+  pub span-record : count ≤ t → false ≡ wellMade count n w
+  span-record m = well-record count n w (kindOf w) refl h t et (record-used ∙ le-ltb t count m)
+
+  module _ (m : t < count) (x : ℕ) (ex : x ≡ firstOf w) where
+    pub span-first : dependencyPart true n x ≡ false → false ≡ wellMade count n w
+    span-first e = well-first count n w (kindOf w) refl h t et (record-used ∙ lt-ltb t count m) x ex (first-used x ∙ e)
+
+    pub span-second : dependencyPart true n x ≡ true → (y : ℕ) → y ≡ secondOf w → dependencyPart true n y ≡ wellMade count n w
+    span-second e y ey =
+        sym (second-used y)
+        ∙ well-second count n w (kindOf w) refl h t et (record-used ∙ lt-ltb t count m) x ex (first-used x ∙ e) y ey
 
 pub place-is : (count n : ℕ) (words : List ℕ) (f w : ℕ) → w ≡ getD words f 0 → pick (ltb f n) (wellMade count n w) (eqb w 0) ≡ placeWell count n words f
 unfolding placeWell

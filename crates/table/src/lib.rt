@@ -5,6 +5,7 @@ ghost use Prim.Native.Nat.{ℕ, _+_, _*_, _≤_, _<_};
 ghost use lib.ListN.{length, getD};
 ghost use lib.Dec.{ltb, leb, eqb};
 ghost use Rattle.model.specs.Question.{_and_, pick, every, firstNo, passed, verdictOf};
+ghost use Rattle.model.specs.Word.{kindOf};
 ghost use Rattle.model.specs.Table.{rowOf, rows, headOf, wordsOf, tablesOf, routineOf, startOf};
 ghost use Rattle.model.specs.Table.{wholeRows, typeLengthsAsk, codeLengthsAsk, countAsk};
 ghost use Rattle.model.specs.Table.{usesRecord, dependency, wellMade, fieldsAsk, tagAsk, typesAsk};
@@ -197,6 +198,20 @@ fn dependency_well(used: bool, n: u32, x: u32) -> bool
     CONSTANTS <= x
 }
 
+// Whether w, of kind Run, From or In, is a type word over count record types and n names. Each of its parts is in use.
+fn span_well(count: u32, n: u32, w: u32) -> bool
+    requires { ⌜ (6 ≤ kindOf w) × (kindOf w ≤ 8) ⌝ }
+    ensures { λ r. ⌜ r ≡ wellMade count n w ⌝ }
+{
+    if count <= word::record_type(w) {
+        return false;
+    }
+    if !dependency_well(true, n, word::first_dependency(w)) {
+        return false;
+    }
+    dependency_well(true, n, word::second_dependency(w))
+}
+
 // Whether w is a type word over count record types and n names. Any, the word 0, is by far the most common.
 pub fn well_made(count: u32, n: u32, w: u32) -> bool
     ensures { λ r. ⌜ r ≡ wellMade count n w ⌝ }
@@ -208,13 +223,16 @@ pub fn well_made(count: u32, n: u32, w: u32) -> bool
     if IN < kind {
         return false;
     }
+    if RUN <= kind {
+        return span_well(count, n, w);
+    }
     if !record_well(count, kind, word::record_type(w)) {
         return false;
     }
     if !dependency_well(TAGGED <= kind, n, word::first_dependency(w)) {
         return false;
     }
-    dependency_well(RUN <= kind, n, word::second_dependency(w))
+    word::second_dependency(w) == 0
 }
 
 // Whether word w of place f is well made, or zero past the n places in use.
