@@ -117,6 +117,7 @@ fn if_formed(formed: bool, a: usize, v: u32) -> Effect
 }
 
 // The effect of an instruction that is not its block's last. It is not asked Q9, so it is of no account which block it is in.
+// Q7 is asked beside what each opcode does, so that the opcode is told once; what ends a block is left to the form's test.
 fn effect_of(registers: &[u32; 8], w: u32) -> Effect
     ensures { λ r. ⌜ ((P : Routine) (b j f n : ℕ) (m : List ℕ) → (suc j ≡ P .long b → ⊥)
         → does r (at b j (now (registers .entry)) m f n) ≡ perform P (decode w) (at b j (now (registers .entry)) m f n)) ⌝ }
