@@ -6,6 +6,20 @@ mod routines;
 use model::RunAnswer;
 use model::Verdict;
 
+// The number of a pause.
+const PAUSED: u32 = 40;
+
+// Orders of eight turns.
+const RANKING_FIRST: u32 = 240;
+
+const IN_TURN_FROM_THE_RANKING: u32 = 170;
+
+const IN_TURN_FROM_THE_CORRECTION: u32 = 85;
+
+const TWO_AND_TWO: u32 = 51;
+
+const CORRECTION_FIRST: u32 = 15;
+
 fn say(out: &mut [u8; 65536], n: usize, words: &[u8], v: Verdict) -> usize {
     let a = output::text(out, n, words);
     let b = output::put(out, a, b' ');
@@ -111,61 +125,130 @@ fn counted(out: &mut [u8; 65536], n: usize, words: &[u8], w: u32) -> usize {
     output::number(out, a, w as u64)
 }
 
-// What the ranking saw: the stage, and the weight where the stage is 1.
-fn seen(out: &mut [u8; 65536], n: usize, r: RunAnswer) -> usize {
-    let registers = r.registers;
-    let stage = registers[2];
-    let weight = registers[4];
-    let a = counted(
-        out,
-        n,
-        b" blocks of the correction, ranking answers ",
-        r.number,
-    );
-    let b = counted(out, a, b" with stage ", stage);
-    let c = counted(out, b, b", weight ", weight);
-    output::line_end(out, c)
-}
-
-fn left(out: &mut [u8; 65536], n: usize, number: u32, memory: &[u32]) -> usize {
-    let a = counted(out, n, b"  then the correction answers ", number);
-    let b = output::text(out, a, b" and leaves");
-    let c = output::words(out, b, memory);
-    output::line_end(out, c)
-}
-
 fn corrected(memory: &mut [u32], block: u32, registers: [u32; 8], budget: u64) -> RunAnswer {
     let blocks = routines::correction_blocks();
     let code = routines::correction_code();
     loader::run(&blocks, &code, memory, block, registers, budget)
 }
 
-fn ranked(memory: &mut [u32]) -> RunAnswer {
+fn ranked(memory: &mut [u32], block: u32, registers: [u32; 8], budget: u64) -> RunAnswer {
     let blocks = routines::ranking_blocks();
     let code = routines::ranking_code();
-    loader::run(
-        &blocks,
-        &code,
-        memory,
-        0,
-        routines::ranking_registers(),
-        100,
-    )
+    loader::run(&blocks, &code, memory, block, registers, budget)
 }
 
-// The correction runs some blocks, the ranking runs to its halt, the correction goes on to its own.
-fn turns(out: &mut [u8; 65536], n: usize, before: u32) -> usize {
-    let mut memory = plots::memory();
-    let first = corrected(&mut memory, 0, routines::registers(), before as u64);
-    let between = ranked(&mut memory);
-    let a = counted(out, n, b"after ", before);
-    let b = seen(out, a, between);
-    if first.number != 40 {
-        return b;
+// A turn of one block; a routine that has halted has none.
+fn turn(correction: bool, waiting: RunAnswer, memory: &mut [u32]) -> RunAnswer {
+    if waiting.number != PAUSED {
+        return waiting;
     }
-    let registers = first.registers;
-    let last = corrected(&mut memory, first.block, registers, 100);
-    left(out, b, last.number, &memory)
+    let block = waiting.block;
+    let registers = waiting.registers;
+    if correction {
+        return corrected(memory, block, registers, 1);
+    }
+    ranked(memory, block, registers, 1)
+}
+
+// Whether every record fits its type.
+fn fits(memory: &[u32]) -> bool {
+    let types = plots::types();
+    let tags = plots::tags();
+    let allocations = plots::allocations();
+    model::passes(loader::memory_check(&types, &tags, &allocations, memory))
+}
+
+// Whose turn it was, and whether every record fits after it.
+fn told(out: &mut [u8; 65536], n: usize, who: u8, memory: &[u32]) -> usize {
+    let at = output::put(out, n, who);
+    if fits(memory) {
+        return at;
+    }
+    output::text(out, at, b"(half written)")
+}
+
+// What the ranking saw: the stage, and the weight where the stage is 1.
+fn seen(out: &mut [u8; 65536], n: usize, r: RunAnswer) -> usize {
+    let registers = r.registers;
+    let stage = registers[2];
+    let weight = registers[4];
+    let a = counted(out, n, b": ranking answers ", r.number);
+    let b = counted(out, a, b" with stage ", stage);
+    counted(out, b, b", weight ", weight)
+}
+
+fn left(out: &mut [u8; 65536], n: usize, c: RunAnswer, memory: &[u32]) -> usize {
+    let a = counted(out, n, b"; correction answers ", c.number);
+    let b = output::text(out, a, b" and leaves");
+    let d = output::words(out, b, memory);
+    output::line_end(out, d)
+}
+
+// Both routines as they wait for their next turn, and the place in the output.
+struct Waiting {
+    correction: RunAnswer,
+    ranking: RunAnswer,
+    at: usize,
+}
+
+// A turn of the correction or of the ranking, after which the records fit.
+fn next(out: &mut [u8; 65536], correction: bool, memory: &mut [u32], w: Waiting) -> Waiting {
+    let c = w.correction;
+    let r = w.ranking;
+    if correction {
+        let after = turn(true, c, memory);
+        return Waiting {
+            correction: after,
+            ranking: r,
+            at: told(out, w.at, b'c', memory),
+        };
+    }
+    let after = turn(false, r, memory);
+    Waiting {
+        correction: c,
+        ranking: after,
+        at: told(out, w.at, b'r', memory),
+    }
+}
+
+// Two turns. The bits of order say whose each is, from the lowest on: 1 the correction's, 0 the ranking's.
+fn two(out: &mut [u8; 65536], order: u32, memory: &mut [u32], w: Waiting) -> Waiting {
+    let first = next(out, order % 2 == 1, memory, w);
+    next(out, order / 2 % 2 == 1, memory, first)
+}
+
+fn four(out: &mut [u8; 65536], order: u32, memory: &mut [u32], w: Waiting) -> Waiting {
+    let first = two(out, order, memory, w);
+    two(out, order / 4, memory, first)
+}
+
+// Both routines before their first turn.
+fn start(at: usize, memory: &mut [u32]) -> Waiting {
+    let correction = corrected(memory, 0, routines::registers(), 0);
+    let ranking = ranked(memory, 0, routines::ranking_registers(), 0);
+    Waiting {
+        correction,
+        ranking,
+        at,
+    }
+}
+
+// Eight turns of one block each, in this order.
+fn eight(out: &mut [u8; 65536], order: u32, memory: &mut [u32], w: Waiting) -> Waiting {
+    let first = four(out, order, memory, w);
+    four(out, order / 16, memory, first)
+}
+
+fn turns(out: &mut [u8; 65536], n: usize, memory: &mut [u32], order: u32) -> usize {
+    let w = start(output::text(out, n, b"turns "), memory);
+    let last = eight(out, order, memory, w);
+    let at = seen(out, last.at, last.ranking);
+    left(out, at, last.correction, memory)
+}
+
+fn taken_in(out: &mut [u8; 65536], n: usize, order: u32) -> usize {
+    let mut memory = plots::memory();
+    turns(out, n, &mut memory, order)
 }
 
 fn main() {
@@ -176,9 +259,10 @@ fn main() {
     let d = remembered(&mut out, c);
     let e = entered_correction(&mut out, d);
     let f = entered_ranking(&mut out, e);
-    let g = turns(&mut out, f, 0);
-    let h = turns(&mut out, g, 1);
-    let i = turns(&mut out, h, 2);
-    let j = turns(&mut out, i, 3);
-    output::flush(&out, j);
+    let g = taken_in(&mut out, f, RANKING_FIRST);
+    let h = taken_in(&mut out, g, IN_TURN_FROM_THE_RANKING);
+    let i = taken_in(&mut out, h, IN_TURN_FROM_THE_CORRECTION);
+    let j = taken_in(&mut out, i, TWO_AND_TWO);
+    let k = taken_in(&mut out, j, CORRECTION_FIRST);
+    output::flush(&out, k);
 }
