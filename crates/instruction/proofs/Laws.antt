@@ -23,16 +23,7 @@ module _ (w : ℕ) where
   unfolding wellFormed
   opcode-past h = sym (ap hasForm (row-past w h))
 
-  not-formed : (wellFormed w ≡ true → ⊥) → false ≡ wellFormed w
-  not-formed n = byTest (wellFormed w) (λ q. absurd (n q)) (λ q. sym q)
-
-  pub a-past : 7 < aOf w → false ≡ wellFormed w
-  a-past h = not-formed (λ q. let (x, y) = registers w q in omega arith)
-
-  pub b-past : 7 < bOf w → false ≡ wellFormed w
-  b-past h = not-formed (λ q. let (x, y) = registers w q in omega arith)
-
-  all-zero : opcodeOf w ≡ 0 → aOf w ≡ 0 → bOf w ≡ 0 → cOf w ≡ 0 → w ≡ 0
+  pub all-zero : opcodeOf w ≡ 0 → aOf w ≡ 0 → bOf w ≡ 0 → cOf w ≡ 0 → w ≡ 0
   all-zero e x y z =
       let h₁ : w < 16777216 = omega arith in
       let h₂ : w / 1048576 ≡ 0 = small (w / 1048576) (omega arith) x in

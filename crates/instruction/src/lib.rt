@@ -5,51 +5,38 @@ ghost use Prim.Native.Nat.{ℕ, _/_, _<_};
 ghost use Rattle.model.specs.Machine.{decode, wellFormed};
 ghost use Rattle.instruction.specs.Form.{leadsOn, formNo};
 
-// Q7: a known opcode with its parts in range, unused parts zero and no divisor 0.
+// Q7: a known opcode with its parts in range, unused parts zero and no divisor 0. Its row has the bits that must not be set: all of
+// an unused part, all but the low three of a register's.
 pub fn well_formed(w: u32) -> bool
     ensures { λ r. ⌜ r ≡ wellFormed w ⌝ }
 {
     let op = w / 16777216;
-    let a = w / 1048576 % 16;
-    let b = w / 65536 % 16;
-    let c = w % 65536;
     if 12 < op {
         return false;
     }
-    if 7 < a {
+    let barred = [
+        0xffffff, // halt
+        0x8f0000, // constant
+        0x88ffff, // copy
+        0x88fff8, // add
+        0x88fff8, // subtract
+        0x88fff8, // multiply
+        0x880000, // divide
+        0x880000, // move
+        0x880000, // load
+        0x880000, // store
+        0xff0000, // jump
+        0x8f0000, // if equal
+        0x880000, // if less
+    ];
+    let set = w & barred[op as usize];
+    if set != 0 {
         return false;
-    }
-    if 7 < b {
-        return false;
-    }
-    if op == 0 {
-        return w == 0;
-    }
-    if op == 1 {
-        return b == 0;
-    }
-    if op == 2 {
-        return c == 0;
-    }
-    if op < 6 {
-        return c < 8;
     }
     if op == 6 {
-        return 0 < c;
+        return 0 < w % 65536;
     }
-    if op < 10 {
-        return true;
-    }
-    if op == 12 {
-        return true;
-    }
-    if b != 0 {
-        return false;
-    }
-    if op == 11 {
-        return true;
-    }
-    a == 0
+    true
 }
 
 // Q9 of a word whose opcode is 10, 11 or 12.

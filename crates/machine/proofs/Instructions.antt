@@ -1,12 +1,12 @@
 -- One instruction: a law for each way out of `effect_of`, `carry_out` and `leave`.
 use mathlib.Core.Path.{_≡_, refl, sym, _∙_}
 use mathlib.Core.Logic.{_⊎_, inl, inr}
-use mathlib.Core.Bool.{Bool, true, false, false≢true}
+use mathlib.Core.Bool.{Bool, true, false}
 use mathlib.Core.List.{List}
 use Prim.Native.Nat.{ℕ, suc, _+_, _/_, _%_, _<_, _≤_}
 use native.Mathlib.Numerals.{add-one}
 use native.Mathlib.Omega.{arith}
-use lib.Dec.{ltb, eqb}
+use lib.Dec.{ltb}
 use lib.ListN.{length, getD, set}
 use borrow.Author.Tests.{lt-ltb, le-ltb, ltb-true, eq-eqb, ne-eqb}
 use Rattle.model.specs.Word.{opcodeOf, aOf, bOf, cOf, sum, difference, product, signed, moved}
@@ -14,129 +14,128 @@ use Rattle.model.specs.Table.{Routine}
 use Rattle.model.specs.Machine.{Plain, constant, copy, add, subtract, multiply, divide, move, load, store, End, halt, jump, ifEqual, ifLess, Instruction, plain, end, malformed, decode, hasForm, formed, wellFormed, put, reg, effect, addressed, registersAfter, memoryAfter, next, targetsExist, State, need, leave, perform}
 use Rattle.model.proofs.Logic.{byTest, byEqual, byLess}
 use Rattle.instruction.specs.Form.{leadsOn, formNo}
-use Rattle.instruction.proofs.Forms.{row-0, row-1, row-2, row-3, row-4, row-5, row-6, row-7, row-8, row-9, row-10, row-11, row-12, decoded, known}
-use Rattle.instruction.proofs.Laws.{at-1, at-2, at-arithmetic, at-6, at-pointer, plain-word, end-word}
+use Rattle.instruction.proofs.Forms.{row-0, row-1, row-2, row-3, row-4, row-5, row-6, row-7, row-8, row-9, row-10, row-11, row-12, decoded, registers, known}
+use Rattle.instruction.proofs.Laws.{at-arithmetic, at-6, plain-word, end-word}
 use Rattle.machine.specs.declared.Effect.{Effect}
 use Rattle.machine.specs.declared.Effect.the-variants.{Put, Read, Write, Refused}
 use Rattle.machine.specs.declared.Exit.the-variants.{To, Halted, No}
-use Rattle.machine.specs.Answer.{at, questionOf, stepOf, past, ifFormed, does, exitOf}
+use Rattle.machine.specs.Answer.{at, questionOf, stepOf, past, does, exitOf}
 
 -- ---- the effect of an instruction inside a block
 
-malformed-word : (w : ℕ) → false ≡ wellFormed w → decode w ≡ malformed
-unfolding wellFormed
-malformed-word w e = go (decode w) e
+-- a word in whose form Q7 and Q8 find no no: opcodes 1 to 9
+formed-word : (w : ℕ) → formNo (decode w) false 0 0 ≡ 0 → wellFormed w ≡ true
+unfolding formNo wellFormed
+formed-word w e = go (decode w) e
   where
-    go : (x : Instruction) → false ≡ hasForm x → x ≡ malformed
-    go (plain x) e = absurd (false≢true e)
-    go (end x) e = absurd (false≢true e)
-    go malformed e = refl
+    go : (x : Instruction) → formNo x false 0 0 ≡ 0 → hasForm x ≡ true
+    go malformed e = absurd (omega arith)
+    go (plain x) e = refl
+    go (end x) e = refl
+
+not-end : (w : ℕ) → formNo (decode w) false 0 0 ≡ 0 → (opcodeOf w ≡ 0) ⊎ (9 < opcodeOf w) → ⊥
+unfolding formNo
+not-end w e k =
+    let d = end-word w (formed-word w e) k .1 in
+    let z : _≡_ {A = ℕ} 8 0 = rw d at e in
+    omega arith
+
+-- what is known of a word inside a block past Q7 and Q8
+abbrev pub Inside : ℕ → Type 0
+Inside w = (wellFormed w ≡ true) × (0 < opcodeOf w) × (opcodeOf w < 10)
+
+pub inside-word : (w n : ℕ) → n ≡ formNo (decode w) false 0 0 → n ≡ 0 → Inside w
+inside-word w n e z =
+    let p = sym e ∙ z in
+    (formed-word w p, byEqual (opcodeOf w) 0 (λ o. absurd (not-end w p (inl o))) (λ o. omega arith), byLess (opcodeOf w) 10 (λ o. o) (λ o. absurd (not-end w p (inr o))))
 
 above : {o : ℕ} (k : ℕ) → k < o → (o ≡ suc k → ⊥) → suc k < o
 above k h n = omega arith
 
-positive : {o : ℕ} → (o ≡ 0 → ⊥) → 0 < o
-positive n = omega arith
+-- opcode 9 is left where the others have been told apart
+pub stores : (w : ℕ) → Inside w → (o : ℕ) → o ≡ opcodeOf w → (o ≡ 1 → ⊥) → (o ≡ 2 → ⊥) → (o ≡ 3 → ⊥) → (o ≡ 4 → ⊥) → (o ≡ 5 → ⊥) → (o ≡ 6 → ⊥) → (o ≡ 7 → ⊥) → (o ≡ 8 → ⊥)
+    → opcodeOf w ≡ 9
+stores w (q, l, h) o e n1 n2 n3 n4 n5 n6 n7 n8 = last (above 7 (above 6 (above 5 (above 4 (above 3 (above 2 (above 1 (above 0 (omega arith) n1) n2) n3) n4) n5) n6) n7) n8)
+  where
+    last : 8 < o → opcodeOf w ≡ 9
+    last g = omega arith
 
--- opcodes other than 1 to 9
-pub other-opcode : (o : ℕ) → (o ≡ 1 → ⊥) → (o ≡ 2 → ⊥) → (o ≡ 3 → ⊥) → (o ≡ 4 → ⊥) → (o ≡ 5 → ⊥) → (o ≡ 6 → ⊥) → (o ≡ 7 → ⊥) → (o ≡ 8 → ⊥) → (o ≡ 9 → ⊥)
-    → (o ≡ 0) ⊎ (9 < o)
-other-opcode o n1 n2 n3 n4 n5 n6 n7 n8 n9 =
-    byEqual o 0 (λ z. inl z) (λ z. inr (above 8 (above 7 (above 6 (above 5 (above 4 (above 3 (above 2 (above 1 (above 0 (positive z) n1) n2) n3) n4) n5) n6) n7) n8) n9))
+-- the third part of a sum, difference or product numbers a register
+third-register : (w : ℕ) → wellFormed w ≡ true → 2 < opcodeOf w → opcodeOf w < 6 → cOf w % 8 ≡ cOf w
+third-register w q l h =
+    let (x, y) = registers w q in
+    let k = ltb-true (cOf w) 8 (at-arithmetic w l h x y ∙ q) in
+    omega arith
+
+pub divisor : (w : ℕ) → wellFormed w ≡ true → opcodeOf w ≡ 6 → 0 < cOf w
+divisor w q e = let (x, y) = registers w q in ltb-true 0 (cOf w) (at-6 w e x y ∙ q)
 
 module _ (P : Routine) (b j f n : ℕ) (r m : List ℕ) (d : suc j ≡ P .long b → ⊥) (w : ℕ) where
   abbrev here : State
   here = at b j r m f n
 
-  -- Q7
-  pub refused-form : false ≡ wellFormed w → does (Refused 7) here ≡ perform P (decode w) here
-  unfolding does stepOf questionOf perform
-  refused-form q = rw (malformed-word w q)
-
-  -- an opcode that ends a block, or none
-  pub refused-end : (k : ℕ) → k ≡ formNo (decode w) false 0 0 → (opcodeOf w ≡ 0) ⊎ (9 < opcodeOf w) → does (Refused k) here ≡ perform P (decode w) here
+  -- Q7 or Q8
+  pub form-refuses : (k : ℕ) → k ≡ formNo (decode w) false 0 0 → (k ≡ 0 → ⊥) → does (Refused k) here ≡ perform P (decode w) here
   unfolding formNo does stepOf questionOf perform need
-  refused-end k e o =
-      byTest (wellFormed w)
-      (λ q. let p = end-word w q o .1 in let y : k ≡ 8 = rw p at e in rw (y, p, ne-eqb (suc j) (P .long b) d))
-      (λ q. let p = malformed-word w (sym q) in let y : k ≡ 7 = rw p at e in rw (y, p))
+  form-refuses k e z = go (decode w) e
+    where
+      go : (x : Instruction) → k ≡ formNo x false 0 0 → does (Refused k) here ≡ perform P x here
+      go malformed e = rw e
+      go (plain x) e = absurd (z e)
+      go (end x) e = rw (e, ne-eqb (suc j) (P .long b) d)
 
-  puts : (x : Plain) (a v : ℕ) → decode w ≡ plain x → put a v ≡ effect x r → does (Put a v) here ≡ perform P (decode w) here
-  unfolding does perform need addressed
-  puts x a v e p = rw (e, ne-eqb (suc j) (P .long b) d, ← p)
+  module _ (q : wellFormed w ≡ true) where
+    puts : (x : Plain) (t : Bool) (a v : ℕ) → decode w ≡ formed t (plain x) → put a v ≡ effect x r → does (Put a v) here ≡ perform P (decode w) here
+    unfolding does perform need addressed
+    puts x t a v e p = rw (decoded w t (plain x) refl e q, ne-eqb (suc j) (P .long b) d, ← p)
 
-  -- a row whose test is as t
-  by-form : (t t' : Bool) (x : Plain) (a v : ℕ) → t ≡ wellFormed w → decode w ≡ formed t' (plain x) → (t ≡ true → put a v ≡ effect x r)
-      → does (ifFormed t a v) here ≡ perform P (decode w) here
-  by-form true t' x a v q p h = puts x a v (decoded w t' (plain x) refl p (sym q)) (h refl)
-  by-form false t' x a v q p h = refused-form q
-
-  module _ (a b' c : ℕ) (ea : a ≡ aOf w) (eb : b' ≡ bOf w) (ec : c ≡ cOf w) (ha : a ≤ 7) (hb : b' ≤ 7) where
-    a-in : aOf w < 8
-    a-in = omega arith
-
-    b-in : bOf w < 8
-    b-in = omega arith
-
-    pub does-1 : opcodeOf w ≡ 1 → (e : Effect) → e ≡ ifFormed (eqb b' 0) a c → does e here ≡ perform P (decode w) here
-    unfolding effect
-    does-1 o e q = rw (q, ea, eb, ec) (by-form _ _ (constant (aOf w) (cOf w)) (aOf w) (cOf w) (at-1 w o a-in) (row-1 w o) (λ _. refl))
-
-    module _ (x : ℕ) (ex : x ≡ reg r b') where
-      pub does-2 : opcodeOf w ≡ 2 → (e : Effect) → e ≡ ifFormed (eqb c 0) a x → does e here ≡ perform P (decode w) here
-      unfolding effect
-      does-2 o e q = rw (q, ex, ea, eb, ec) (by-form _ _ (copy (aOf w) (bOf w)) (aOf w) (reg r (bOf w)) (at-2 w o a-in b-in) (row-2 w o) (λ _. refl))
-
-      module _ (y : ℕ) (ey : y ≡ reg r (c % 8)) (v : ℕ) where
-        third : ltb (cOf w) 8 ≡ true → cOf w % 8 ≡ cOf w
-        third t = let h = ltb-true (cOf w) 8 t in omega arith
-
-        pub does-3 : opcodeOf w ≡ 3 → v ≡ sum x y → (e : Effect) → e ≡ ifFormed (ltb c 8) a v → does e here ≡ perform P (decode w) here
+    module _ (a : ℕ) (ea : a ≡ aOf w) where
+      module _ (c : ℕ) (ec : c ≡ cOf w) where
+        pub does-1 : opcodeOf w ≡ 1 → does (Put a c) here ≡ perform P (decode w) here
         unfolding effect
-        does-3 o ev e q =
-            rw (q, ev, ex, ey, ea, eb, ec)
-            (by-form _ _ (add (aOf w) (bOf w) (cOf w)) (aOf w) _ (at-arithmetic w (omega arith) (omega arith) a-in b-in) (row-3 w o) (λ t. rw (third t)))
+        does-1 o = rw (ea, ec) (puts (constant (aOf w) (cOf w)) _ (aOf w) (cOf w) (row-1 w o) refl)
 
-        pub does-4 : opcodeOf w ≡ 4 → v ≡ difference x y → (e : Effect) → e ≡ ifFormed (ltb c 8) a v → does e here ≡ perform P (decode w) here
-        unfolding effect
-        does-4 o ev e q =
-            rw (q, ev, ex, ey, ea, eb, ec)
-            (by-form _ _ (subtract (aOf w) (bOf w) (cOf w)) (aOf w) _ (at-arithmetic w (omega arith) (omega arith) a-in b-in) (row-4 w o) (λ t. rw (third t)))
+        module _ (x b' : ℕ) (eb : b' ≡ bOf w) (ex : x ≡ reg r b') where
+          pub does-2 : opcodeOf w ≡ 2 → does (Put a x) here ≡ perform P (decode w) here
+          unfolding effect
+          does-2 o = rw (ex, ea, eb) (puts (copy (aOf w) (bOf w)) _ (aOf w) _ (row-2 w o) refl)
 
-        pub does-5 : opcodeOf w ≡ 5 → v ≡ product x y → (e : Effect) → e ≡ ifFormed (ltb c 8) a v → does e here ≡ perform P (decode w) here
-        unfolding effect
-        does-5 o ev e q =
-            rw (q, ev, ex, ey, ea, eb, ec)
-            (by-form _ _ (multiply (aOf w) (bOf w) (cOf w)) (aOf w) _ (at-arithmetic w (omega arith) (omega arith) a-in b-in) (row-5 w o) (λ t. rw (third t)))
+          module _ (y : ℕ) (ey : y ≡ reg r (c % 8)) (v : ℕ) where
+            pub does-3 : opcodeOf w ≡ 3 → v ≡ sum x y → does (Put a v) here ≡ perform P (decode w) here
+            unfolding effect
+            does-3 o ev =
+                rw (ev, ex, ey, ea, eb, ec)
+                (puts (add (aOf w) (bOf w) (cOf w)) _ (aOf w) _ (row-3 w o) (rw (third-register w q (omega arith) (omega arith))))
 
-      pub does-6 : opcodeOf w ≡ 6 → (c ≡ 0 → ⊥) → (v : ℕ) → v ≡ x / c → does (Put a v) here ≡ perform P (decode w) here
-      unfolding effect
-      does-6 o h v ev =
-          let q = sym (at-6 w o a-in b-in) ∙ lt-ltb 0 (cOf w) (omega arith) in
-          rw (ev, ex, ea, eb, ec) (puts _ (aOf w) _ (decoded w _ (plain (divide (aOf w) (bOf w) (cOf w))) refl (row-6 w o) q) refl)
+            pub does-4 : opcodeOf w ≡ 4 → v ≡ difference x y → does (Put a v) here ≡ perform P (decode w) here
+            unfolding effect
+            does-4 o ev =
+                rw (ev, ex, ey, ea, eb, ec)
+                (puts (subtract (aOf w) (bOf w) (cOf w)) _ (aOf w) _ (row-4 w o) (rw (third-register w q (omega arith) (omega arith))))
 
-      -- opcodes 7 to 9 want no more than registers
-      formed-7 : 6 < opcodeOf w → opcodeOf w < 10 → wellFormed w ≡ true
-      formed-7 l h = sym (at-pointer w l h a-in b-in)
+            pub does-5 : opcodeOf w ≡ 5 → v ≡ product x y → does (Put a v) here ≡ perform P (decode w) here
+            unfolding effect
+            does-5 o ev =
+                rw (ev, ex, ey, ea, eb, ec)
+                (puts (multiply (aOf w) (bOf w) (cOf w)) _ (aOf w) _ (row-5 w o) (rw (third-register w q (omega arith) (omega arith))))
 
-      pub does-7 : opcodeOf w ≡ 7 → (v : ℕ) → v ≡ moved x (signed c) → does (Put a v) here ≡ perform P (decode w) here
-      unfolding effect
-      does-7 o v ev =
-          rw (ev, ex, ea, eb, ec)
-          (puts _ (aOf w) _ (decoded w _ (plain (move (aOf w) (bOf w) (cOf w))) refl (row-7 w o) (formed-7 (omega arith) (omega arith))) refl)
+          pub does-6 : opcodeOf w ≡ 6 → (v : ℕ) → v ≡ x / c → does (Put a v) here ≡ perform P (decode w) here
+          unfolding effect
+          does-6 o v ev = rw (ev, ex, ea, eb, ec) (puts (divide (aOf w) (bOf w) (cOf w)) _ (aOf w) _ (row-6 w o) refl)
 
-      pub does-8 : opcodeOf w ≡ 8 → (z : ℕ) → z ≡ sum x c → does (Read a z) here ≡ perform P (decode w) here
-      unfolding effect does perform need addressed
-      does-8 o z ez =
-          rw (ez, ex, ea, eb, ec, decoded w _ (plain (load (aOf w) (bOf w) (cOf w))) refl (row-8 w o) (formed-7 (omega arith) (omega arith)), ne-eqb (suc j) (P .long b) d)
+          pub does-7 : opcodeOf w ≡ 7 → (v : ℕ) → v ≡ moved x (signed c) → does (Put a v) here ≡ perform P (decode w) here
+          unfolding effect
+          does-7 o v ev = rw (ev, ex, ea, eb, ec) (puts (move (aOf w) (bOf w) (cOf w)) _ (aOf w) _ (row-7 w o) refl)
 
-      pub does-9 : opcodeOf w ≡ 9 → (z y : ℕ) → z ≡ sum x c → y ≡ reg r a → does (Write z y) here ≡ perform P (decode w) here
-      unfolding effect does perform need addressed
-      does-9 o z y ez ey =
-          rw (ez, ey, ex, ea, eb, ec, decoded w _ (plain (store (aOf w) (bOf w) (cOf w))) refl (row-9 w o) (formed-7 (omega arith) (omega arith)), ne-eqb (suc j) (P .long b) d)
+          pub does-8 : opcodeOf w ≡ 8 → (z : ℕ) → z ≡ sum x c → does (Read a z) here ≡ perform P (decode w) here
+          unfolding effect does perform need addressed
+          does-8 o z ez =
+              rw (ez, ex, ea, eb, ec, decoded w _ (plain (load (aOf w) (bOf w) (cOf w))) refl (row-8 w o) q, ne-eqb (suc j) (P .long b) d)
 
-    pub no-divisor : opcodeOf w ≡ 6 → c ≡ 0 → does (Refused 7) here ≡ perform P (decode w) here
-    no-divisor o h = refused-form (sym (le-ltb 0 (cOf w) (omega arith)) ∙ at-6 w o a-in b-in)
+          pub does-9 : opcodeOf w ≡ 9 → (z y : ℕ) → z ≡ sum x c → y ≡ reg r a → does (Write z y) here ≡ perform P (decode w) here
+          unfolding effect does perform need addressed
+          does-9 o z y ez ey =
+              rw (ez, ey, ex, ea, eb, ec, decoded w _ (plain (store (aOf w) (bOf w) (cOf w))) refl (row-9 w o) q, ne-eqb (suc j) (P .long b) d)
 
 -- ---- an effect carried out
 

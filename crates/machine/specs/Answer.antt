@@ -1,6 +1,5 @@
 -- How the answers of the functions read as the model's states and steps.
 use mathlib.Core.Path.{_≡_}
-use mathlib.Core.Bool.{Bool}
 use mathlib.Core.List.{List}
 use Prim.Native.Nat.{ℕ, suc, _+_}
 use lib.Dec.{ltb, eqb}
@@ -28,10 +27,6 @@ stepOf n s s' = pick (eqb n 0) (goes s') (faults (questionOf n) s)
 -- past the instruction of a state, which changed registers and memory before
 abbrev pub past : State → State
 past s = at (s .block) (suc (s .offset)) (s .registers) (s .memory) (s .finished) (suc (s .carried))
-
--- v for register a, where the instruction has its form
-abbrev pub ifFormed : Bool → ℕ → ℕ → Effect
-ifFormed t a v = pick t (Put a v) (Refused 7)
 
 -- the step that an effect makes: Q18, then registers and memory; or a no by its number
 unfoldable pub does : Effect → State → Step

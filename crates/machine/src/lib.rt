@@ -8,7 +8,7 @@ ghost use Rattle.model.specs.Question.{pick, ok};
 ghost use Rattle.model.specs.Word.{sum, signed, moved};
 ghost use Rattle.model.specs.Table.{Routine, routineOf, startOf, rows, lengthsAsk};
 ghost use Rattle.model.specs.Machine.{decode, perform, steps, run, returned};
-ghost use Rattle.machine.specs.Answer.{at, ifFormed, does, stepOf, past, exitOf, Covers, ranOf};
+ghost use Rattle.machine.specs.Answer.{at, does, stepOf, past, exitOf, Covers, ranOf};
 use model::RunAnswer;
 use model::Verdict;
 
@@ -38,19 +38,13 @@ const MOVE: u32 = 7;
 
 const LOAD: u32 = 8;
 
-const STORE: u32 = 9;
-
 const JUMP: u32 = 10;
 
 const IF_EQUAL: u32 = 11;
 
 const REGISTERS: u32 = 8;
 
-const LAST_REGISTER: usize = 7;
-
-// The numbers of Q7, Q18 and Q22.
-const MALFORMED: u32 = 7;
-
+// The numbers of Q18 and Q22.
 const OUT_OF_MEMORY: u32 = 18;
 
 const OUT_OF_CODE: u32 = 22;
@@ -106,54 +100,37 @@ enum Effect {
     Refused(u32),
 }
 
-// v for register a, where the parts of the instruction are as its opcode wants them.
-fn if_formed(formed: bool, a: usize, v: u32) -> Effect
-    ensures { λ r. ⌜ r ≡ ifFormed formed a v ⌝ }
-{
-    if formed {
-        return Effect::Put(a, v);
-    }
-    Effect::Refused(MALFORMED)
-}
-
 // The effect of an instruction that is not its block's last. It is not asked Q9, so it is of no account which block it is in.
-// Q7 is asked beside what each opcode does, so that the opcode is told once; what ends a block is left to the form's test.
 fn effect_of(registers: &[u32; 8], w: u32) -> Effect
     ensures { λ r. ⌜ ((P : Routine) (b j f n : ℕ) (m : List ℕ) → (suc j ≡ P .long b → ⊥)
         → does r (at b j (now (registers .entry)) m f n) ≡ perform P (decode w) (at b j (now (registers .entry)) m f n)) ⌝ }
 {
+    let no = instruction::form(w, false, 0, 0);
+    if no != 0 {
+        return Effect::Refused(no);
+    }
     let op = word::opcode(w);
     let a = word::a(w);
-    let b = word::b(w);
     let c = word::c(w);
-    if LAST_REGISTER < a {
-        return Effect::Refused(MALFORMED);
-    }
-    if LAST_REGISTER < b {
-        return Effect::Refused(MALFORMED);
-    }
-    let x = registers[b];
-    // The register that c numbers, for the opcodes whose c is one.
+    let x = registers[word::b(w)];
+    // The register that c numbers, for the opcodes whose c is one: read before they are told apart, which takes no branch.
     let y = registers[(c % REGISTERS) as usize];
     if op == CONSTANT {
-        return if_formed(b == 0, a, c);
+        return Effect::Put(a, c);
     }
     if op == COPY {
-        return if_formed(c == 0, a, x);
+        return Effect::Put(a, x);
     }
     if op == ADD {
-        return if_formed(c < REGISTERS, a, word::sum(x, y));
+        return Effect::Put(a, word::sum(x, y));
     }
     if op == SUBTRACT {
-        return if_formed(c < REGISTERS, a, word::difference(x, y));
+        return Effect::Put(a, word::difference(x, y));
     }
     if op == MULTIPLY {
-        return if_formed(c < REGISTERS, a, word::product(x, y));
+        return Effect::Put(a, word::product(x, y));
     }
     if op == DIVIDE {
-        if c == 0 {
-            return Effect::Refused(MALFORMED);
-        }
         return Effect::Put(a, word::quotient(x, c));
     }
     if op == MOVE {
@@ -162,11 +139,8 @@ fn effect_of(registers: &[u32; 8], w: u32) -> Effect
     if op == LOAD {
         return Effect::Read(a, address(x, c));
     }
-    if op == STORE {
-        let v = registers[a];
-        return Effect::Write(address(x, c), v);
-    }
-    Effect::Refused(instruction::form(w, false, 0, 0))
+    let v = registers[a];
+    Effect::Write(address(x, c), v)
 }
 
 // The number of the question that had a no, 0 where the instruction was carried out, and the registers after it.

@@ -1,62 +1,33 @@
--- `instruction::well_formed` meets its contract, opcode by opcode.
+-- `instruction::well_formed` meets its contract: a word has its form where no bit is set that its opcode bars.
+use mathlib.Core.Path.{refl}
 use native.Mathlib.Omega.{arith}
-use Rattle.instruction.proofs.Laws.{opcode-past, a-past, b-past, at-0, at-1, at-2, at-arithmetic, at-6, at-pointer, at-12, b-used, at-11, at-10}
+use borrow.Author.Needs.{needs}
+use Rattle.instruction.proofs.Laws.{opcode-past}
+use Rattle.instruction.proofs.Barred.{set-bit, divides, no-bit}
 use Rattle.instruction.proofs.well_formed.Statement.{statement}
 use Rattle.instruction.proofs.well_formed.Tie as tie
 
 returns : tie.Need-returns
 returns c = opcode-past _ (omega arith)
 
+cast-set : tie.Need-cast-set
+cast-set c = search needs
+
+mul-set : tie.Need-mul-set
+mul-set c = search needs
+
+array-read-set : tie.Need-array-read-set
+array-read-set c = search needs
+
 returns-2 : tie.Need-returns-2
-returns-2 c = a-past _ (omega arith)
+returns-2 c = set-bit _ _ (omega arith) (c .if2 .taken) refl
 
 returns-3 : tie.Need-returns-3
-returns-3 c = b-past _ (omega arith)
+returns-3 c = divides _ _ (omega arith) (c .before .if2 .left) refl
 
 returns-4 : tie.Need-returns-4
-returns-4 c = at-0 _ (omega arith)
-
-returns-5 : tie.Need-returns-5
-returns-5 c = at-1 _ (omega arith) (omega arith)
-
-returns-6 : tie.Need-returns-6
-returns-6 c = at-2 _ (omega arith) (omega arith) (omega arith)
-
-returns-7 : tie.Need-returns-7
-returns-7 c = at-arithmetic _ (omega arith) (omega arith) (omega arith) (omega arith)
-
-returns-8 : tie.Need-returns-8
-returns-8 c = at-6 _ (omega arith) (omega arith) (omega arith)
-
-returns-9 : tie.Need-returns-9
-returns-9 c = at-pointer _ (omega arith) (omega arith) (omega arith) (omega arith)
-
-returns-10 : tie.Need-returns-10
-returns-10 c = at-12 _ (omega arith) (omega arith) (omega arith)
-
-returns-11 : tie.Need-returns-11
-returns-11 c = b-used _ (omega arith) (omega arith) (λ h. omega arith)
-
-returns-12 : tie.Need-returns-12
-returns-12 c = at-11 _ (omega arith) (omega arith) (omega arith)
-
-returns-13 : tie.Need-returns-13
-returns-13 c = at-10 _ (omega arith) (omega arith)
+returns-4 c = no-bit _ _ (omega arith) (c .if3 .left) (c .before .if2 .left) refl
 
 pub well-formed-spec : {M : Type 1} → statement M
 well-formed-spec =
-    tie.close
-    (tie.spec
-    returns
-    returns-2
-    returns-3
-    returns-4
-    returns-5
-    returns-6
-    returns-7
-    returns-8
-    returns-9
-    returns-10
-    returns-11
-    returns-12
-    returns-13)
+    tie.close (tie.spec returns cast-set mul-set array-read-set returns-2 returns-3 returns-4)
