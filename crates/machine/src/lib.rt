@@ -225,99 +225,59 @@ fn leave(registers: &[u32; 8], w: u32, b: u32, count: u32) -> Exit
 
 // ---- a block
 
-// The number of the question that had a no, 0 where there was none, the offset it came to, and the registers there.
-struct Passed {
-    number: u32,
-    at: usize,
-    registers: [u32; 8],
-}
-
-// A block's code up to its last instruction. The code has room words from the block's first on: Q22 asks whether an offset is below.
-fn body(part: &[u32], room: usize, registers: [u32; 8], memory: &mut [u32]) -> Passed
-    requires { ⌜ 1 ≤ length (now part) ⌝ }
-    ensures steps { λ r. ⌜ ((P : Routine) (b f n : ℕ) → Covers P b (now (part .entry)) room
-        → stepOf (r .number) (at b (r .at) (r .registers) (now (memory .exit)) f (n + r .at)) (at b (r .at) (r .registers) (now (memory .exit)) f (n + r .at))
-        ≡ steps P (length (now (part .entry)) - 1) (at b 0 registers (now (memory .entry)) f n)) ⌝ }
-    ensures place { λ r. ⌜ (r .at < length (now (part .entry))) × (r .number ≡ 0 → suc (r .at) ≡ length (now (part .entry))) ⌝ }
-{
-    let last = part.len() - 1;
-    let mut current = registers;
-    let mut i = 0;
-    while i < last {
-        if room <= i {
-            return Passed {
-                number: OUT_OF_CODE,
-                at: i,
-                registers: current,
-            };
-        }
-        let e = effect_of(&current, part[i]);
-        let s = carry_out(current, memory, e);
-        let number = s.number;
-        let next = s.registers;
-        if number != 0 {
-            return Passed {
-                number,
-                at: i,
-                registers: next,
-            };
-        }
-        current = next;
-        i += 1;
-    }
-    Passed {
-        number: 0,
-        at: i,
-        registers: current,
-    }
-}
-
-// How a block was left, the offset of its last instruction carried out or refused, and the registers there.
+// How a block was left, and the offset of its last instruction carried out or refused.
 struct Ended {
     exit: Exit,
     at: usize,
-    registers: [u32; 8],
 }
 
-// A block, whose code is one part of the code table that starts at its first instruction.
+// A block, whose code is one part of the code table that starts at its first instruction. The code has room words from there on: Q22
+// asks whether an offset is below. An instruction takes the registers by value; a block is lent them, so that they are not copied at
+// its ends.
 fn run_block(
     part: &[u32],
     room: usize,
-    registers: [u32; 8],
+    registers: &mut [u32; 8],
     memory: &mut [u32],
     b: u32,
     count: u32,
 ) -> Ended
     requires { ⌜ (1 ≤ length (now part)) × (b < 4294967295) ⌝ }
     ensures steps { λ r. ⌜ ((P : Routine) (f n : ℕ) → P .count ≡ count → Covers P b (now (part .entry)) room
-        → exitOf (r .exit) (at b (r .at) (r .registers) (now (memory .exit)) f (n + r .at))
-        ≡ steps P (P .long b) (at b 0 registers (now (memory .entry)) f n)) ⌝ }
+        → exitOf (r .exit) (at b (r .at) (now (registers .exit)) (now (memory .exit)) f (n + r .at))
+        ≡ steps P (P .long b) (at b 0 (now (registers .entry)) (now (memory .entry)) f n)) ⌝ }
     ensures place { λ r. ⌜ r .at < length (now (part .entry)) ⌝ }
 {
-    let p = body(part, room, registers, memory);
-    let number = p.number;
-    let at = p.at;
-    let next = p.registers;
-    if number != 0 {
-        return Ended {
-            exit: Exit::No(number),
-            at,
-            registers: next,
-        };
+    let last = part.len() - 1;
+    let mut i = 0;
+    while i < last {
+        if room <= i {
+            return Ended {
+                exit: Exit::No(OUT_OF_CODE),
+                at: i,
+            };
+        }
+        let e = effect_of(registers, part[i]);
+        let s = carry_out(*registers, memory, e);
+        let number = s.number;
+        let next = s.registers;
+        *registers = next;
+        if number != 0 {
+            return Ended {
+                exit: Exit::No(number),
+                at: i,
+            };
+        }
+        i += 1;
     }
-    if room <= at {
+    if room <= i {
         return Ended {
             exit: Exit::No(OUT_OF_CODE),
-            at,
-            registers: next,
+            at: i,
         };
     }
-    let exit = leave(&next, part[at], b, count);
-    Ended {
-        exit,
-        at,
-        registers: next,
-    }
+    let exit = leave(registers, part[i], b, count);
+    Ended { exit, at: i }
 }
 
 // ---- a run
@@ -380,10 +340,9 @@ fn run_blocks(
         let first = starts[k] as usize;
         let end = starts[k + 1] as usize;
         let room = code.len() - first;
-        let e = run_block(&code[first..end], room, current, memory, b, count);
+        let e = run_block(&code[first..end], room, &mut current, memory, b, count);
         let index = (first + e.at) as u32;
         let exit = e.exit;
-        current = e.registers;
         match exit {
             Exit::To(t) => {
                 b = t;

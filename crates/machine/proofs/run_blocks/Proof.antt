@@ -73,11 +73,11 @@ placed c =
 -- ---- after the block
 
 abbrev here : tie.After-run-block Inv-loop μ-loop → tie.In-loop Inv-loop μ-loop
-here c = c .before .before .before .before .before
+here c = c .before .before .before .before .before .before
 
 -- what the block came to
 block-ran : (c : tie.After-run-block Inv-loop μ-loop)
-    → exitOf (c .run-block .result .exit) (at (block (here c)) (c .run-block .result .at) (c .run-block .result .registers) (c .run-block .last .1 .1 .1 .0) (here c .before .loop .finished) (0 + c .run-block .result .at))
+    → exitOf (c .run-block .result .exit) (at (block (here c)) (c .run-block .result .at) (c .run-block .last .1 .1 .0) (c .run-block .last .1 .1 .1 .0) (here c .before .loop .finished) (0 + c .run-block .result .at))
     ≡ steps (routine (here c)) (routine (here c) .long (block (here c))) (at (block (here c)) 0 (here c .before .loop .current) (here c .before .loop .memory) (here c .before .loop .finished) 0)
 block-ran c = c .run-block .ensures .0 _ _ 0 (routine-count _ _) (covered (here c))
 
@@ -129,13 +129,13 @@ part-run-block-end : tie.Need-part-run-block-end Inv-loop μ-loop
 part-run-block-end c = omega (arith, placed (c .before .before))
 
 run-block-requires : tie.Need-run-block-requires Inv-loop μ-loop
-run-block-requires c κs = (omega (arith, placed (c .before .before .before .before)), omega arith)
+run-block-requires c κs = (omega (arith, placed (c .before .before .before .before .before)), omega arith)
 
 add-index : tie.Need-add-index Inv-loop μ-loop
-add-index c = omega (arith, placed (c .before .before .before .before .before .before .before .before), c .before .before .before .run-block .ensures .1)
+add-index c = omega (arith, placed (c .before .before .before .before .before .before .before .before .before), c .before .before .before .run-block .ensures .1)
 
 cast-index : tie.Need-cast-index Inv-loop μ-loop
-cast-index c = omega (arith, placed (c .before .before .before .before .before .before .before .before), c .before .before .before .run-block .ensures .1)
+cast-index c = omega (arith, placed (c .before .before .before .before .before .before .before .before .before), c .before .before .before .run-block .ensures .1)
 
 enum-known-exit : tie.Need-enum-known-exit Inv-loop μ-loop
 enum-known-exit c = search needs
@@ -150,11 +150,11 @@ answer-requires : tie.Need-answer-requires Inv-loop μ-loop
 answer-requires c κs = tt
 
 same-length : tie.Need-same-length Inv-loop μ-loop
-same-length c = c .before .before .before .before .before .before .before .run-block .kept .1 .1 .1 .0 ∙ c .before .before .before .before .before .before .before .before .before .before .before .before .before .loop .inv .3
+same-length c = c .before .before .before .before .before .before .run-block .kept .1 .1 .1 .0 ∙ c .before .before .before .before .before .before .before .before .before .before .before .before .before .loop .inv .3
 
 returns : tie.Need-returns Inv-loop μ-loop
 returns c =
-    let k = c .before .before .before .before .before .before .before in
+    let k = c .before .before .before .before .before .before in
     let i = here k in
     let l = i .before .loop in
     let w =
@@ -169,11 +169,11 @@ answer-requires-2 : tie.Need-answer-requires-2 Inv-loop μ-loop
 answer-requires-2 c κs = tt
 
 same-length-2 : tie.Need-same-length-2 Inv-loop μ-loop
-same-length-2 c = c .before .before .before .before .before .before .before .before .run-block .kept .1 .1 .1 .0 ∙ c .before .before .before .before .before .before .before .before .before .before .before .before .before .before .loop .inv .3
+same-length-2 c = c .before .before .before .before .before .before .before .run-block .kept .1 .1 .1 .0 ∙ c .before .before .before .before .before .before .before .before .before .before .before .before .before .before .loop .inv .3
 
 returns-2 : tie.Need-returns-2 Inv-loop μ-loop
 returns-2 c =
-    let k = c .before .before .before .before .before .before .before .before in
+    let k = c .before .before .before .before .before .before .before in
     let i = here k in
     let l = i .before .loop in
     let w =
@@ -189,7 +189,7 @@ loop-less c = omega arith
 
 loop-again : tie.Need-loop-again Inv-loop μ-loop
 loop-again c =
-    let k = c .before .before .before .before .before .before .before in
+    let k = c .before .before .before .before .before .before in
     let i = here k in
     let l = i .before .loop in (
       l .inv .0 ∙ run-on (routine i) (i .before .before .before .before .before .args .budget) (l .finished) (l .b) (k .run-block .result .at) _ _ _ _ _ (omega arith) _ (block-ran k) _ (c .before .exit .given .1),
