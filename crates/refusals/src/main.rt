@@ -73,7 +73,7 @@ fn examples(out: &mut [u8; 65536], n: usize) -> usize {
         out,
         n,
         b"\n\
-          ## The smallest request for each\n\
+          ## A small request for each\n\
           \n\
           The requests of `examples/refusals.txt`, each followed by its answer.\n\
           \n\
