@@ -11,6 +11,7 @@ use Rattle.model.specs.Machine.{returned, begin}
 use Rattle.model.specs.Turns.{Task, World, waiting, Call, turn, running, settled, standingAfter, turnRun, turned, afterCall}
 use Rattle.model.specs.Safety.{Demand3, Checked, Safe, TurnSafe, Ends, pauses, halting}
 use Rattle.model.proofs.Safe.{demand-3}
+use Rattle.model.proofs.ChecksAgain.{memory-again, entry-again}
 use Rattle.loader.specs.Delivery.{RunGave, standing, Passed, Reached, start, turned as turn-made, refused, Delivered}
 
 number-of : {v u : Verdict} → v ≡ u → v .number ≡ 0 → u .number ≡ 0
@@ -56,9 +57,12 @@ module _ (types tags allocations memory : List ℕ) (n : ℕ) (tasks : ℕ → T
 pub delivered : Delivered
 unfolding Delivered afterCall
 delivered types tags allocations memory n tasks S w p =
+    let C = checked types tags allocations memory n tasks S in
     let safe = all-safe types tags allocations memory n tasks S w p in
     record {
       fit = safe [];
+      checksAgain = λ v g. number-of (sym g) (memory-again types tags allocations memory n tasks C w (safe []));
+      entersAgain = λ i b r v h e g. number-of (sym g) (entry-again types tags allocations memory n tasks C w (safe []) i b r h e);
       safe = λ i budget b r e. safe (turn i budget ∷ []) .1 b r e;
       answers = λ i budget b r a left e g. halted-or-paused types tags allocations memory n tasks w i budget b r a (g .0) (safe (turn i budget ∷ []) .1 b r e .ends);
       leaves = λ blocks code b r budget a left o g. g .1 ∙ ap (λ (v : World). v .memory) (safe (running blocks code b r budget ∷ []) .1 o);

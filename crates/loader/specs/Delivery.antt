@@ -50,10 +50,13 @@ module _ (types tags allocations memory : List ℕ) (n : ℕ) (tasks : ℕ → T
     refused : {w : World} (blocks code : List ℕ) (b : ℕ) (r : List ℕ) (budget : ℕ) (a : RunAnswer) (left : List ℕ) → Reached w → Allowed (running blocks code b r budget) w
         → RunGave blocks code (w .memory) b r budget a left → Reached (record { memory = left; standing = w .standing })
 
-  -- There all fits. A turn that is called next is safe at every state that it passes through, and answers 0 or 40; a run of other code
-  -- that is refused with no instruction carried out leaves memory as it was.
+  -- There all fits, and both checks asked again give 0. A turn that is called next is safe at every state that it passes through, and
+  -- answers 0 or 40; a run of other code that is refused with no instruction carried out leaves memory as it was.
   pub record Delivers (w : World) : Type 0 where
     pub fit : Fit types tags allocations memory n tasks w
+    pub checksAgain : (v : Verdict) → MemoryCheckGave types tags allocations (w .memory) v → v .number ≡ 0
+    pub entersAgain : (i b : ℕ) (r : List ℕ) (v : Verdict) → i < n → w .standing i ≡ waiting b r
+        → EntryCheckGave types tags allocations (w .memory) (tasks i .blocks) (tasks i .code) b r v → v .number ≡ 0
     pub safe : (i budget b : ℕ) (r : List ℕ) → w .standing i ≡ waiting b r → TurnSafe types tags allocations memory n tasks w i budget b r
     pub answers : (i budget b : ℕ) (r : List ℕ) (a : RunAnswer) (left : List ℕ) → w .standing i ≡ waiting b r
         → RunGave (tasks i .blocks) (tasks i .code) (w .memory) b r budget a left → eqb (a .number) 0 or eqb (a .number) 40 ≡ true
