@@ -1,11 +1,12 @@
--- The relations of specs/Delivery.antt are the contracts of src/lib.rt. Each call asks nothing of its caller, and what its caller learns
--- is the relation; a check leaves what it is lent as it was.
+-- The relations of specs/Delivery.antt are the contracts of src/lib.rt: each call asks nothing of its caller, and its caller learns just the
+-- relation, with what the call left of the memory that it was lent. Tables come back as they were lent.
 use mathlib.Core.Path.{_≡_, refl}
 use mathlib.Core.List.{List}
 use Prim.Native.Nat.{ℕ}
 use contract.Lifetimes.{Lfts}
 use denote.Ref.{RefT, now}
-use denote.Triple.Clauses.{atExit}
+use denote.Triple.Clauses.{Lasts, atExit}
+use denote.Triple.Entry.{Args}
 use Rattle.model.specs.declared.Verdict.{Verdict}
 use Rattle.model.specs.declared.RunAnswer.{RunAnswer}
 use Rattle.loader.specs.Delivery.{CheckGave, MemoryCheckGave, EntryCheckGave, RunGave}
@@ -15,35 +16,70 @@ use Rattle.loader.proofs.memory_check
 use Rattle.loader.proofs.memory_check.Reads as memory-check-read
 use Rattle.loader.proofs.entry_check
 use Rattle.loader.proofs.entry_check.Reads as entry-check-read
+use Rattle.loader.proofs.run
 use Rattle.loader.proofs.run.Reads as run-read
 
 -- words that a call is lent
 abbrev Lent : Type 0
 Lent = RefT (List ℕ)
 
-pub check-contract : (κs : Lfts 4) (types tags blocks code : Lent) (v : Verdict) (last exit : _)
-    → (check-read.Asked κs (types, (tags, (blocks, (code, tt)))) ≡ Unit {0})
-    × (check-read.Learnt κs (types, (tags, (blocks, (code, tt)))) v exit ≡ CheckGave (now types) (now tags) (now blocks) (now code) v)
-    × (atExit check.ended κs (types, (tags, (blocks, (code, tt)))) last ≡ (types, (tags, (blocks, (code, tt)))))
-check-contract κs types tags blocks code v last exit = (refl, refl, refl)
+abbrev Just : Type 0 → Type 0 → Type 0
+Just A B = (A → B) × (B → A)
 
-pub memory-check-contract : (κs : Lfts 4) (types tags allocations memory : Lent) (v : Verdict) (last exit : _)
-    → (memory-check-read.Asked κs (types, (tags, (allocations, (memory, tt)))) ≡ Unit {0})
-    × (memory-check-read.Learnt κs (types, (tags, (allocations, (memory, tt)))) v exit ≡ MemoryCheckGave (now types) (now tags) (now allocations) (now memory) v)
-    × (atExit memory_check.ended κs (types, (tags, (allocations, (memory, tt)))) last ≡ (types, (tags, (allocations, (memory, tt)))))
-memory-check-contract κs types tags allocations memory v last exit = (refl, refl, refl)
+module _ (κs : Lfts 4) (types tags blocks code : Lent) where
+  abbrev to-check : Args check.signature κs
+  to-check = (types, (tags, (blocks, (code, tt))))
 
-pub entry-check-contract : (κs : Lfts 6) (types tags allocations memory blocks code : Lent) (b : ℕ) (r : List ℕ) (v : Verdict) (last exit : _)
-    → (entry-check-read.Asked κs (types, (tags, (allocations, (memory, (blocks, (code, (b, (r, tt)))))))) ≡ Unit {0})
-    × (entry-check-read.Learnt κs (types, (tags, (allocations, (memory, (blocks, (code, (b, (r, tt)))))))) v exit
-    ≡ EntryCheckGave (now types) (now tags) (now allocations) (now memory) (now blocks) (now code) b r v)
-    × (atExit entry_check.ended κs (types, (tags, (allocations, (memory, (blocks, (code, (b, (r, tt)))))))) last
-    ≡ (types, (tags, (allocations, (memory, (blocks, (code, (b, (r, tt)))))))))
-entry-check-contract κs types tags allocations memory blocks code b r v last exit = (refl, refl, refl)
+  pub check-asks : check-read.Asked κs to-check ≡ Unit {0}
+  check-asks = refl
 
--- with a stroke, what is seen at exit
-pub run-contract : (κs : Lfts 3) (blocks code memory blocks' code' memory' : Lent) (b b' : ℕ) (r r' : List ℕ) (budget budget' : ℕ) (a : RunAnswer)
-    → (run-read.Asked κs (blocks, (code, (memory, (b, (r, (budget, tt)))))) ≡ Unit {0})
-    × (run-read.Learnt κs (blocks, (code, (memory, (b, (r, (budget, tt)))))) a (blocks', (code', (memory', (b', (r', (budget', tt))))))
-    ≡ RunGave (now blocks) (now code) (now memory) b r budget a (now memory'))
-run-contract κs blocks code memory blocks' code' memory' b b' r r' budget budget' a = (refl, refl)
+  pub check-gives : (v : Verdict) (last : Lasts check.ended κs to-check)
+      → Just (check-read.Learnt κs to-check v (atExit check.ended κs to-check last)) (CheckGave (now types) (now tags) (now blocks) (now code) v)
+  check-gives v last = (λ l. l, λ g. g)
+
+  pub check-lent : (last : Lasts check.ended κs to-check) → atExit check.ended κs to-check last ≡ to-check
+  check-lent last = refl
+
+module _ (κs : Lfts 4) (types tags allocations memory : Lent) where
+  abbrev to-memory-check : Args memory_check.signature κs
+  to-memory-check = (types, (tags, (allocations, (memory, tt))))
+
+  pub memory-check-asks : memory-check-read.Asked κs to-memory-check ≡ Unit {0}
+  memory-check-asks = refl
+
+  pub memory-check-gives : (v : Verdict) (last : Lasts memory_check.ended κs to-memory-check)
+      → Just (memory-check-read.Learnt κs to-memory-check v (atExit memory_check.ended κs to-memory-check last))
+      (MemoryCheckGave (now types) (now tags) (now allocations) (now memory) v (now (atExit memory_check.ended κs to-memory-check last .1 .1 .1 .0)))
+  memory-check-gives v last = (λ l. (l, refl), λ g. g .0)
+
+  pub memory-check-lent : (last : Lasts memory_check.ended κs to-memory-check) → atExit memory_check.ended κs to-memory-check last ≡ to-memory-check
+  memory-check-lent last = refl
+
+module _ (κs : Lfts 6) (types tags allocations memory blocks code : Lent) (b : ℕ) (r : List ℕ) where
+  abbrev to-entry-check : Args entry_check.signature κs
+  to-entry-check = (types, (tags, (allocations, (memory, (blocks, (code, (b, (r, tt))))))))
+
+  pub entry-check-asks : entry-check-read.Asked κs to-entry-check ≡ Unit {0}
+  entry-check-asks = refl
+
+  pub entry-check-gives : (v : Verdict) (last : Lasts entry_check.ended κs to-entry-check)
+      → Just (entry-check-read.Learnt κs to-entry-check v (atExit entry_check.ended κs to-entry-check last))
+      (EntryCheckGave (now types) (now tags) (now allocations) (now memory) (now blocks) (now code) b r v (now (atExit entry_check.ended κs to-entry-check last .1 .1 .1 .0)))
+  entry-check-gives v last = (λ l. (l, refl), λ g. g .0)
+
+  pub entry-check-lent : (last : Lasts entry_check.ended κs to-entry-check) → atExit entry_check.ended κs to-entry-check last ≡ to-entry-check
+  entry-check-lent last = refl
+
+module _ (κs : Lfts 3) (blocks code memory : Lent) (b : ℕ) (r : List ℕ) (budget : ℕ) where
+  abbrev to-run : Args run.signature κs
+  to-run = (blocks, (code, (memory, (b, (r, (budget, tt))))))
+
+  pub run-asks : run-read.Asked κs to-run ≡ Unit {0}
+  run-asks = refl
+
+  pub run-gives : (a : RunAnswer) (last : Lasts run.ended κs to-run)
+      → Just (run-read.Learnt κs to-run a (atExit run.ended κs to-run last)) (RunGave (now blocks) (now code) (now memory) b r budget a (now (atExit run.ended κs to-run last .1 .1 .0)))
+  run-gives a last = (λ l. l, λ g. g)
+
+  pub run-lent : (last : Lasts run.ended κs to-run) → (atExit run.ended κs to-run last .0 ≡ blocks) × (atExit run.ended κs to-run last .1 .0 ≡ code)
+  run-lent last = (refl, refl)

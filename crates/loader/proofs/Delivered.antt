@@ -1,4 +1,4 @@
--- Demand 3 holds of the public calls.
+-- Demand 3 holds of every list of calls.
 use mathlib.Core.Path.{_≡_, refl, sym, ap, subst, _∙_}
 use mathlib.Core.List.{List, [], _∷_}
 use mathlib.Core.Bool.{true}
@@ -8,23 +8,29 @@ use Rattle.model.specs.Question.{_or_}
 use Rattle.model.specs.declared.Verdict.{Verdict}
 use Rattle.model.specs.declared.RunAnswer.{RunAnswer}
 use Rattle.model.specs.Machine.{returned, begin}
-use Rattle.model.specs.Turns.{Task, World, waiting, Call, turn, running, settled, standingAfter, turnRun, turned, afterCall}
-use Rattle.model.specs.Safety.{Demand3, Checked, Safe, TurnSafe, Ends, pauses, halting}
+use Rattle.model.specs.Turns.{Task, World, waiting, Call, turn, running, settled, standingAfter, turnRun, turned, afterCall, atStart}
+use Rattle.model.specs.Safety.{Demand3, Checked, Fit, Safe, Ends, pauses, halting}
 use Rattle.model.proofs.Safe.{demand-3}
 use Rattle.model.proofs.ChecksAgain.{memory-again, entry-again}
-use Rattle.loader.specs.Delivery.{RunGave, standing, Passed, Reached, start, turned as turn-made, refused, Delivered}
+use Rattle.loader.specs.Delivery.{RunGave, standing, Passed, with, Calls, none, memoryChecked, entryChecked, turned as turn-made, ran, Holds, TurnHolds, Delivers, Delivered}
 
-number-of : {v u : Verdict} → v ≡ u → v .number ≡ 0 → u .number ≡ 0
-number-of e z = ap (λ (v : Verdict). v .number) (sym e) ∙ z
+number-of : {v u : Verdict} → v ≡ u → u .number ≡ 0 → v .number ≡ 0
+number-of e z = ap (λ (v : Verdict). v .number) e ∙ z
 
-module _ (types tags allocations memory : List ℕ) (n : ℕ) (tasks : ℕ → Task) where
-  checked : Passed types tags allocations memory n tasks → Checked types tags allocations memory n tasks
-  checked S =
+module _ (types tags allocations memory : List ℕ) (n : ℕ) (tasks : ℕ → Task) (S : Passed types tags allocations memory n tasks) where
+  abbrev Made : World → Type 0
+  Made w = Calls types tags allocations memory n tasks w
+
+  abbrev AllHolds : World → Type 0
+  AllHolds w = Holds types tags allocations memory n tasks w
+
+  checked : Checked types tags allocations memory n tasks
+  checked =
       record {
-        memoryPassed = let (v, e, z) = S .memoryPassed in number-of e z;
-        accepted = λ i h. let (v, e, z) = S .accepted i h in number-of e z;
+        memoryPassed = let (v, m, g, z) = S .memoryPassed in number-of (sym (g .0)) z;
+        accepted = λ i h. let (v, g, z) = S .accepted i h in number-of (sym g) z;
         eight = S .eight;
-        entered = λ i h. let (m, v, e, z) = S .entered i h in (m, number-of e z);
+        entered = λ i h. let (m, v, k, g, z) = S .entered i h in (m, number-of (sym (g .0)) z);
       }
 
   -- the world that the definitions make of a turn is the one that is made of what the call gave
@@ -34,17 +40,23 @@ module _ (types tags allocations memory : List ℕ) (n : ℕ) (tasks : ℕ → T
   unfolding afterCall turned standingAfter
   turn-leads w i budget b r a left e (ea, el) = rw (e, ea, el) refl
 
-  abbrev AllSafe : World → Type 0
-  AllSafe w = (calls : List Call) → Safe types tags allocations memory n tasks calls w
-
-  -- every list of calls is safe wherever calls lead: each call that was made is one more at a list's head
-  all-safe : Passed types tags allocations memory n tasks → (w : World) → Reached types tags allocations memory n tasks w → AllSafe w
+  -- After a list of calls every list of the definitions is safe: the last call is one more at its head.
+  all-safe : (w : World) → Made w → (calls : List Call) → Safe types tags allocations memory n tasks calls w
   unfolding Demand3 afterCall
-  all-safe S w start = demand-3 types tags allocations memory n tasks (checked S)
-  all-safe S w (turn-made {w = v} i budget b r a left p e g) =
-      λ calls. subst (λ (x : World). Safe types tags allocations memory n tasks calls x) (turn-leads v i budget b r a left e g) (all-safe S v p (turn i budget ∷ calls) .2 tt)
-  all-safe S w (refused {w = v} blocks code b r budget a left p o (ea, el)) =
-      λ calls. rw el (all-safe S v p (running blocks code b r budget ∷ calls) .2 o)
+  all-safe w none calls = demand-3 types tags allocations memory n tasks checked calls
+  all-safe w (memoryChecked {w = v} x y z u left p (eu, el)) calls = rw el (all-safe v p calls)
+  all-safe w (entryChecked {w = v} x y z t c b r u left p (eu, el)) calls = rw el (all-safe v p calls)
+  all-safe w (turn-made {w = v} i budget b r a left p e g) calls =
+      subst (λ (x : World). Safe types tags allocations memory n tasks calls x) (turn-leads v i budget b r a left e g) (all-safe v p (turn i budget ∷ calls) .2 tt)
+  all-safe w (ran {w = v} blocks code b r budget a left p o (ea, el)) calls = rw el (all-safe v p (running blocks code b r budget ∷ calls) .2 o)
+
+  holds : (w : World) → Fit types tags allocations memory n tasks w → AllHolds w
+  holds w F =
+      record {
+        fit = F;
+        memoryPasses = λ v left g. number-of (g .0) (memory-again types tags allocations memory n tasks checked w F);
+        entryPasses = λ i b r v left h e g. number-of (g .0) (entry-again types tags allocations memory n tasks checked w F i b r h e);
+      }
 
   -- a turn's answer is that of its last state
   halted-or-paused : (w : World) (i budget b : ℕ) (r : List ℕ) (a : RunAnswer) → a ≡ returned (turnRun tasks w i budget b r)
@@ -54,16 +66,31 @@ module _ (types tags allocations memory : List ℕ) (n : ℕ) (tasks : ℕ → T
   halted-or-paused w i budget b r a e (pauses p f z q) = rw (e, q) refl
   halted-or-paused w i budget b r a e (halting p f h q) = rw (e, q) refl
 
+  turn-holds : (w : World) → Made w → (i budget b : ℕ) (r : List ℕ) (a : RunAnswer) → w .standing i ≡ waiting b r → a ≡ returned (turnRun tasks w i budget b r)
+      → TurnHolds types tags allocations memory n tasks w i budget b r a
+  turn-holds w p i budget b r a e q =
+      let T = all-safe w p (turn i budget ∷ []) .1 b r e in
+      record {
+        answers = halted-or-paused w i budget b r a q (T .ends);
+        safe = T;
+        blockEnds = λ s v z. holds _ (T .blockEnds s v z);
+      }
+
+  unchanged : (w : World) (left : List ℕ) → left ≡ w .memory → with types tags allocations memory n tasks w left ≡ w
+  unchanged w left e = ap (λ (m : List ℕ). with types tags allocations memory n tasks w m) e
+
+  after : (w : World) → Made w → AllHolds w
+  after w p = holds w (all-safe w p [])
+
+  delivers : (w : World) (calls : Made w) → Delivers types tags allocations memory n tasks calls
+  unfolding afterCall
+  delivers w none = after w none
+  delivers w (memoryChecked {w = v} x y z u left p g) = (delivers v p, unchanged v left (g .1), after w (memoryChecked x y z u left p g))
+  delivers w (entryChecked {w = v} x y z t c b r u left p g) = (delivers v p, unchanged v left (g .1), after w (entryChecked x y z t c b r u left p g))
+  delivers w (turn-made {w = v} i budget b r a left p e g) = (delivers v p, turn-holds v p i budget b r a e (g .0), after w (turn-made i budget b r a left p e g))
+  delivers w (ran {w = v} blocks code b r budget a left p o g) =
+      (delivers v p, unchanged v left (g .1 ∙ ap (λ (x : World). x .memory) (all-safe v p (running blocks code b r budget ∷ []) .1 o)), after w (ran blocks code b r budget a left p o g))
+
 pub delivered : Delivered
-unfolding Delivered afterCall
-delivered types tags allocations memory n tasks S w p =
-    let C = checked types tags allocations memory n tasks S in
-    let safe = all-safe types tags allocations memory n tasks S w p in
-    record {
-      fit = safe [];
-      checksAgain = λ v g. number-of (sym g) (memory-again types tags allocations memory n tasks C w (safe []));
-      entersAgain = λ i b r v h e g. number-of (sym g) (entry-again types tags allocations memory n tasks C w (safe []) i b r h e);
-      safe = λ i budget b r e. safe (turn i budget ∷ []) .1 b r e;
-      answers = λ i budget b r a left e g. halted-or-paused types tags allocations memory n tasks w i budget b r a (g .0) (safe (turn i budget ∷ []) .1 b r e .ends);
-      leaves = λ blocks code b r budget a left o g. g .1 ∙ ap (λ (v : World). v .memory) (safe (running blocks code b r budget ∷ []) .1 o);
-    }
+unfolding Delivered
+delivered types tags allocations memory n tasks S w calls = delivers types tags allocations memory n tasks S w calls
