@@ -11,9 +11,10 @@ use Rattle.model.specs.Question.{q22}
 use Rattle.model.specs.Table.{Routine}
 use Rattle.model.specs.Machine.{decode, State, Step, goes, halts, faults, need, perform, step, onward, steps}
 use Rattle.table.proofs.Questions.{left}
-use Rattle.machine.specs.declared.Exit.{Exit}
-use Rattle.machine.specs.declared.Exit.the-variants.{No}
-use Rattle.machine.specs.Answer.{at, questionOf, stepOf, past, exitOf, Covers}
+use Rattle.step.specs.declared.Exit.{Exit}
+use Rattle.step.specs.declared.Exit.the-variants.{No}
+use Rattle.step.specs.Answer.{at, questionOf, stepOf, past, exitOf}
+use Rattle.machine.specs.Run.{Covers}
 
 -- ---- one step more
 

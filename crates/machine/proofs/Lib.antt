@@ -1,5 +1,3 @@
--- Laws of the crate: registers, one instruction, a block and a run.
-pub mod Registers
-pub mod Instructions
+-- Laws of the crate: a block and a run.
 pub mod Blocks
 pub mod Runs

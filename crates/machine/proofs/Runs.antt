@@ -19,9 +19,10 @@ use Rattle.model.proofs.MachineLaws.{goes-halts, goes-faults, Placed, placed-he
 use Rattle.model.proofs.RunCalls.{run-is}
 use Rattle.table.proofs.Questions.{left, no-refusal, then-on, then-stops}
 use Rattle.table.proofs.Laws.{start-more}
-use Rattle.machine.specs.declared.Exit.{Exit}
-use Rattle.machine.specs.declared.Exit.the-variants.{To, Halted, No}
-use Rattle.machine.specs.Answer.{at, questionOf, exitOf, Covers, ranOf}
+use Rattle.step.specs.declared.Exit.{Exit}
+use Rattle.step.specs.declared.Exit.the-variants.{To, Halted, No}
+use Rattle.step.specs.Answer.{at, questionOf, exitOf}
+use Rattle.machine.specs.Run.{Covers, ranOf}
 
 -- ---- the questions that instructions are asked
 

@@ -7,7 +7,8 @@ use native.Mathlib.Omega.{arith}
 use lib.ListN.{length}
 use Rattle.model.specs.Table.{Routine}
 use Rattle.model.specs.Machine.{steps}
-use Rattle.machine.specs.Answer.{at, Covers}
+use Rattle.step.specs.Answer.{at}
+use Rattle.machine.specs.Run.{Covers}
 use Rattle.machine.proofs.Blocks.{body-past, body-on, body-stops, body-end, block-stops, block-past, block-ends}
 use borrow.Author.Needs.{needs}
 use Rattle.machine.proofs.run_block.Statement.{statement}

@@ -9,7 +9,8 @@ use lib.ListN.{length, getD, take, drop}
 use Rattle.model.specs.Table.{Routine, routineOf, startOf, headOf, rows}
 use Rattle.model.specs.Machine.{steps, Run, returned}
 use Rattle.table.proofs.Laws.{start-more, routine-count, routine-long, routine-start}
-use Rattle.machine.specs.Answer.{at, exitOf, Covers, ranOf}
+use Rattle.step.specs.Answer.{at, exitOf}
+use Rattle.machine.specs.Run.{Covers, ranOf}
 use borrow.Author.Needs.{needs}
 use Rattle.machine.proofs.Runs.{bounds, covers, leads-on, uncounted, rest, run-on, run-halts, run-faults, run-pauses}
 use Rattle.machine.proofs.run_blocks.Statement.{statement}

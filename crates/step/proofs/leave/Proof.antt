@@ -1,12 +1,12 @@
--- `machine::leave` meets its contract: a law for each return.
+-- `step::leave` meets its contract: a law for each return.
 use mathlib.Core.Path.{sym, _∙_}
 use Prim.Native.Nat.{_/_, _<_, _≤_}
 use native.Mathlib.Omega.{arith}
 use Rattle.instruction.proofs.Forms.{registers}
-use Rattle.machine.proofs.Instructions.{Ending, ending-word, form-refuses-last, halts-here, jumps-to, equal-taken, equal-left, less-taken, less-left}
+use Rattle.step.proofs.Instructions.{Ending, ending-word, form-refuses-last, halts-here, jumps-to, equal-taken, equal-left, less-taken, less-left}
 use borrow.Author.Needs.{needs}
-use Rattle.machine.proofs.leave.Statement.{statement}
-use Rattle.machine.proofs.leave.Tie as tie
+use Rattle.step.proofs.leave.Statement.{statement}
+use Rattle.step.proofs.leave.Tie as tie
 
 -- past Q7, Q8 and Q9
 ending : (c : tie.Else1) → Ending (c .before .before .args .w) (c .before .before .args .b) (c .before .before .args .count)

@@ -1,9 +1,9 @@
--- `machine::carry_out` meets its contract: a law for each return.
-use Rattle.machine.proofs.Instructions.{put-done, read-past, read-done, write-past, write-done, not-done}
+-- `step::carry_out` meets its contract: a law for each return.
+use Rattle.step.proofs.Instructions.{put-done, read-past, read-done, write-past, write-done, not-done}
 use native.Mathlib.Omega.{arith}
 use borrow.Author.Needs.{needs}
-use Rattle.machine.proofs.carry_out.Statement.{statement}
-use Rattle.machine.proofs.carry_out.Tie as tie
+use Rattle.step.proofs.carry_out.Statement.{statement}
+use Rattle.step.proofs.carry_out.Tie as tie
 
 enum-known-e : tie.Need-enum-known-e
 enum-known-e c = search needs

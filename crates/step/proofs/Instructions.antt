@@ -16,10 +16,10 @@ use Rattle.model.proofs.Logic.{byTest, byEqual, byLess}
 use Rattle.instruction.specs.Form.{leadsOn, formNo}
 use Rattle.instruction.proofs.Forms.{row-0, row-1, row-2, row-3, row-4, row-5, row-6, row-7, row-8, row-9, row-10, row-11, row-12, decoded, registers, known}
 use Rattle.instruction.proofs.Laws.{at-arithmetic, at-6, plain-word, end-word}
-use Rattle.machine.specs.declared.Effect.{Effect}
-use Rattle.machine.specs.declared.Effect.the-variants.{Put, Read, Write, Refused}
-use Rattle.machine.specs.declared.Exit.the-variants.{To, Halted, No}
-use Rattle.machine.specs.Answer.{at, questionOf, stepOf, past, does, exitOf}
+use Rattle.step.specs.declared.Effect.{Effect}
+use Rattle.step.specs.declared.Effect.the-variants.{Put, Read, Write, Refused}
+use Rattle.step.specs.declared.Exit.the-variants.{To, Halted, No}
+use Rattle.step.specs.Answer.{at, questionOf, stepOf, past, does, exitOf}
 
 -- ---- the effect of an instruction inside a block
 

@@ -1,11 +1,11 @@
--- `machine::effect_of` meets its contract, opcode by opcode.
+-- `step::effect_of` meets its contract, opcode by opcode.
 use mathlib.Core.Path.{refl, sym, _∙_}
 use native.Mathlib.Omega.{arith}
 use Rattle.instruction.proofs.Forms.{registers}
-use Rattle.machine.proofs.Instructions.{Inside, inside-word, divisor, stores, form-refuses, does-1, does-2, does-3, does-4, does-5, does-6, does-7, does-8, does-9}
+use Rattle.step.proofs.Instructions.{Inside, inside-word, divisor, stores, form-refuses, does-1, does-2, does-3, does-4, does-5, does-6, does-7, does-8, does-9}
 use borrow.Author.Needs.{needs}
-use Rattle.machine.proofs.effect_of.Statement.{statement}
-use Rattle.machine.proofs.effect_of.Tie as tie
+use Rattle.step.proofs.effect_of.Statement.{statement}
+use Rattle.step.proofs.effect_of.Tie as tie
 
 -- past Q7 and Q8
 inside : (c : tie.Else1) → Inside (c .before .before .args .w)

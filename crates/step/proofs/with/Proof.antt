@@ -1,8 +1,8 @@
--- `machine::with` meets its contract.
-use Rattle.machine.proofs.Registers.{blended}
+-- `step::with` meets its contract.
+use Rattle.step.proofs.Registers.{blended}
 use borrow.Author.Needs.{needs}
-use Rattle.machine.proofs.with.Statement.{statement}
-use Rattle.machine.proofs.with.Tie as tie
+use Rattle.step.proofs.with.Statement.{statement}
+use Rattle.step.proofs.with.Tie as tie
 
 array-read-chosen : tie.Need-array-read-chosen
 array-read-chosen c = search needs

@@ -1,16 +1,14 @@
 -- How the answers of the functions read as the model's states and steps.
-use mathlib.Core.Path.{_≡_}
 use mathlib.Core.List.{List}
-use Prim.Native.Nat.{ℕ, suc, _+_}
+use Prim.Native.Nat.{ℕ, suc}
 use lib.Dec.{ltb, eqb}
 use lib.ListN.{length}
 use Rattle.model.specs.Question.{pick, Question, q1, q7, q8, q9, q18, q22}
-use Rattle.model.specs.Table.{Routine, routineOf}
-use Rattle.model.specs.Machine.{put, read, write, State, Step, goes, halts, faults, need, after, atHalt, entering, runBlocks, Run, answerOf, begin}
-use Rattle.machine.specs.declared.Effect.{Effect}
-use Rattle.machine.specs.declared.Effect.the-variants.{Put, Read, Write, Refused}
-use Rattle.machine.specs.declared.Exit.{Exit}
-use Rattle.machine.specs.declared.Exit.the-variants.{To, Halted, No}
+use Rattle.model.specs.Machine.{put, read, write, State, Step, goes, halts, faults, need, after, atHalt, entering}
+use Rattle.step.specs.declared.Effect.{Effect}
+use Rattle.step.specs.declared.Effect.the-variants.{Put, Read, Write, Refused}
+use Rattle.step.specs.declared.Exit.{Exit}
+use Rattle.step.specs.declared.Exit.the-variants.{To, Halted, No}
 
 -- block, offset, registers, memory, blocks finished, instructions carried out
 abbrev pub at : ℕ → ℕ → List ℕ → List ℕ → ℕ → ℕ → State
@@ -40,13 +38,3 @@ unfoldable pub exitOf : Exit → State → Step
 exitOf (To t) s = goes (entering s t)
 exitOf Halted s = halts (atHalt s)
 exitOf (No n) s = faults (questionOf n) s
-
--- part is the code of block b, from whose first instruction on the code has room words
-pub record Covers (P : Routine) (b : ℕ) (part : List ℕ) (room : ℕ) : Type 0 where
-  pub same : P .part b ≡ part
-  pub long : P .long b ≡ length part
-  pub left : P .start b + room ≡ P .total
-
--- what a run past its opening questions comes to
-abbrev pub ranOf : List ℕ → List ℕ → List ℕ → ℕ → List ℕ → ℕ → Run
-ranOf blocks code memory b registers budget = answerOf (routineOf blocks code) (runBlocks (routineOf blocks code) budget (begin b registers memory))

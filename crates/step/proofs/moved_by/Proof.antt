@@ -1,11 +1,11 @@
--- `machine::moved_by` meets its contract.
+-- `step::moved_by` meets its contract.
 use mathlib.Core.Path.{ap, _∙_}
 use mir.Syntax.{w32}
 use mir.Facts.{toZ-ofZ}
 use borrow.Author.Needs.{needs}
 use Rattle.model.specs.Word.{moved}
-use Rattle.machine.proofs.moved_by.Statement.{statement}
-use Rattle.machine.proofs.moved_by.Tie as tie
+use Rattle.step.proofs.moved_by.Statement.{statement}
+use Rattle.step.proofs.moved_by.Tie as tie
 
 signed-requires : tie.Need-signed-requires
 signed-requires c κs = search needs

@@ -1,7 +1,7 @@
--- `machine::chosen` meets its contract.
+-- `step::chosen` meets its contract.
 use borrow.Author.Tests.{eq-eqb, ne-eqb}
-use Rattle.machine.proofs.chosen.Statement.{statement}
-use Rattle.machine.proofs.chosen.Tie as tie
+use Rattle.step.proofs.chosen.Statement.{statement}
+use Rattle.step.proofs.chosen.Tie as tie
 
 returns : tie.Need-returns
 returns c = rw (eq-eqb _ _ (c .if1 .taken))

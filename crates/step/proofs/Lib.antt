@@ -1,0 +1,3 @@
+-- Laws of the crate: registers and one instruction.
+pub mod Registers
+pub mod Instructions
