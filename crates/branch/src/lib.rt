@@ -14,6 +14,9 @@ ghost use Rattle.model.specs.Check.{readEdges};
 ghost use Rattle.fits.specs.Numbers.{valuesOf};
 ghost use Rattle.straight.specs.State.{reading, numbered};
 ghost use Rattle.branch.specs.End.{endOf, lastAsk};
+use instruction::HALT;
+use instruction::IF_EQUAL;
+use instruction::IF_LESS;
 use straight::NO_BASE;
 
 // Numbers of the questions asked of code.
@@ -22,13 +25,6 @@ const OPEN_RECORD: u32 = 13;
 const TAKEN: u32 = 14;
 
 const UNTAKEN: u32 = 15;
-
-// Opcodes.
-const HALT: u32 = 0;
-
-const IF_EQUAL: u32 = 11;
-
-const IF_LESS: u32 = 12;
 
 // Kinds of type words, and the weight of a kind in its word.
 const REF: u32 = 1;

@@ -5,13 +5,40 @@ ghost use Prim.Native.Nat.{ℕ, _/_, _<_};
 ghost use Rattle.model.specs.Machine.{decode, wellFormed};
 ghost use Rattle.instruction.specs.Form.{leadsOn, formNo};
 
+// The opcodes.
+pub const HALT: u32 = 0;
+
+pub const CONSTANT: u32 = 1;
+
+pub const COPY: u32 = 2;
+
+pub const ADD: u32 = 3;
+
+pub const SUBTRACT: u32 = 4;
+
+pub const MULTIPLY: u32 = 5;
+
+pub const DIVIDE: u32 = 6;
+
+pub const MOVE: u32 = 7;
+
+pub const LOAD: u32 = 8;
+
+pub const STORE: u32 = 9;
+
+pub const JUMP: u32 = 10;
+
+pub const IF_EQUAL: u32 = 11;
+
+pub const IF_LESS: u32 = 12;
+
 // Q7: a known opcode with its parts in range, unused parts zero and no divisor 0. Its row has the bits that must not be set: all of
 // an unused part, all but the low three of a register's.
 pub fn well_formed(w: u32) -> bool
     ensures { λ r. ⌜ r ≡ wellFormed w ⌝ }
 {
     let op = w / 16777216;
-    if 12 < op {
+    if IF_LESS < op {
         return false;
     }
     let barred = [
@@ -33,7 +60,7 @@ pub fn well_formed(w: u32) -> bool
     if set != 0 {
         return false;
     }
-    if op == 6 {
+    if op == DIVIDE {
         return 0 < w % 65536;
     }
     true
@@ -46,13 +73,13 @@ pub fn targets_exist(w: u32, b: u32, count: u32) -> bool
 {
     let op = w / 16777216;
     let c = w % 65536;
-    if op == 10 {
+    if op == JUMP {
         return c < count;
     }
     if count <= b + 1 {
         return false;
     }
-    if op == 11 {
+    if op == IF_EQUAL {
         return c % 256 < count;
     }
     c < count
@@ -67,13 +94,13 @@ pub fn form(w: u32, last: bool, b: u32, count: u32) -> u32
         return 7;
     }
     let op = w / 16777216;
-    if op == 0 {
+    if op == HALT {
         if last {
             return 0;
         }
         return 8;
     }
-    if op < 10 {
+    if op < JUMP {
         if last {
             return 8;
         }

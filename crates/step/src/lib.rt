@@ -9,6 +9,17 @@ ghost use Rattle.model.specs.Word.{sum, signed, moved};
 ghost use Rattle.model.specs.Table.{Routine};
 ghost use Rattle.model.specs.Machine.{decode, perform};
 ghost use Rattle.step.specs.Answer.{at, does, stepOf, past, exitOf};
+use instruction::ADD;
+use instruction::CONSTANT;
+use instruction::COPY;
+use instruction::DIVIDE;
+use instruction::HALT;
+use instruction::IF_EQUAL;
+use instruction::JUMP;
+use instruction::LOAD;
+use instruction::MOVE;
+use instruction::MULTIPLY;
+use instruction::SUBTRACT;
 
 // How a block is left: to a block, by a halt, or with the number of a question that had a no.
 pub enum Exit {
@@ -16,29 +27,6 @@ pub enum Exit {
     Halted,
     No(u32),
 }
-
-// Opcodes that are told apart by a test; past those before it the last of a function needs none.
-const HALT: u32 = 0;
-
-const CONSTANT: u32 = 1;
-
-const COPY: u32 = 2;
-
-const ADD: u32 = 3;
-
-const SUBTRACT: u32 = 4;
-
-const MULTIPLY: u32 = 5;
-
-const DIVIDE: u32 = 6;
-
-const MOVE: u32 = 7;
-
-const LOAD: u32 = 8;
-
-const JUMP: u32 = 10;
-
-const IF_EQUAL: u32 = 11;
 
 const REGISTERS: u32 = 8;
 

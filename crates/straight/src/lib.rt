@@ -17,6 +17,10 @@ ghost use Rattle.model.specs.Reading.{laidAt, upFrom, steady, movedWord, look, 
 ghost use Rattle.model.specs.Check.{readPlain};
 ghost use Rattle.fits.specs.Numbers.{valuesOf};
 ghost use Rattle.straight.specs.State.{reading, numbered, plainOf, loadAsk, storeAsk, touched, earlyAsk};
+use instruction::CONSTANT;
+use instruction::COPY;
+use instruction::LOAD;
+use instruction::MOVE;
 use model::Reference;
 
 // Numbers of the questions asked of code.
@@ -25,15 +29,6 @@ const NO_REFERENCE: u32 = 10;
 const OFFSET: u32 = 11;
 
 const OTHER_RECORD: u32 = 12;
-
-// Opcodes.
-const CONSTANT: u32 = 1;
-
-const COPY: u32 = 2;
-
-const MOVE: u32 = 7;
-
-const LOAD: u32 = 8;
 
 // The first kind of a span, and the weight of a kind in its type word.
 const RUN: u32 = 6;
