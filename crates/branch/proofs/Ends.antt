@@ -8,7 +8,7 @@ use native.Mathlib.Omega.{arith}
 use lib.Dec.{ltb, eqb}
 use lib.ListN.{length, getD, set}
 use borrow.Author.Tests.{lt-ltb, le-ltb, eq-eqb, ne-eqb, ltb-true}
-use Rattle.model.specs.Question.{_and_, pick, Question, Refusal, ask}
+use Rattle.model.specs.Question.{_and_, pick, Question, questionOf, Refusal, ask}
 use Rattle.model.specs.Word.{kindOf, firstOf, secondOf, opcodeOf, aOf, bOf, cOf}
 use Rattle.model.specs.Types.{depOf, renameDep}
 use Rattle.model.specs.Table.{Tables, tablesOf, Routine, routineOf, rows, wordsOf}
@@ -22,7 +22,7 @@ use Rattle.instruction.proofs.Forms.{row-0, row-10, row-11, row-12, decoded, kn
 use Rattle.instruction.proofs.Laws.{form-plain-last}
 use Rattle.fits.specs.Numbers.{framesOf, valuesOf, depAt, siblingOf}
 use Rattle.fits.proofs.Numbers.{dep-name, byKind, type-any, type-ref, type-maybe, type-tagged, type-present, type-same, type-span}
-use Rattle.straight.specs.State.{reading, questionOf, numbered}
+use Rattle.straight.specs.State.{reading, numbered}
 use Rattle.straight.proofs.Forms.{well-formed}
 use Rattle.branch.specs.End.{endOf, lastAsk}
 

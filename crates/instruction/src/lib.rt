@@ -5,7 +5,7 @@ ghost use Prim.Native.Nat.{ℕ, _/_, _<_};
 ghost use Rattle.model.specs.Machine.{decode, wellFormed};
 ghost use Rattle.instruction.specs.Form.{leadsOn, formNo};
 
-// The opcodes.
+// The opcodes, told apart by these names in the check and in a run.
 pub const HALT: u32 = 0;
 
 pub const CONSTANT: u32 = 1;

@@ -7,13 +7,13 @@ use native.Mathlib.Numerals.{add-one}
 use native.Mathlib.Omega.{arith}
 use lib.ListN.{length, getD}
 use borrow.Author.Tests.{lt-ltb, le-ltb, ne-eqb}
-use Rattle.model.specs.Question.{q22}
+use Rattle.model.specs.Question.{questionOf, q22}
 use Rattle.model.specs.Table.{Routine}
 use Rattle.model.specs.Machine.{decode, State, Step, goes, halts, faults, need, perform, step, onward, steps}
 use Rattle.table.proofs.Questions.{left}
 use Rattle.step.specs.declared.Exit.{Exit}
 use Rattle.step.specs.declared.Exit.the-variants.{No}
-use Rattle.step.specs.Answer.{at, questionOf, stepOf, past, exitOf}
+use Rattle.step.specs.Answer.{at, stepOf, past, exitOf}
 use Rattle.machine.specs.Run.{Covers}
 
 -- ---- one step more

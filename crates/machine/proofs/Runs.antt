@@ -7,12 +7,12 @@ use native.Mathlib.Nat.{zero-add, add-zero, sub-eq-zero-of-le}
 use native.Mathlib.Numerals.{add-one}
 use native.Mathlib.Omega.{arith}
 use lib.ListN.{length, take, drop, length-take, length-drop}
-use borrow.Author.Tests.{ne-eqb, lt-ltb, le-ltb}
+use borrow.Author.Tests.{lt-ltb, le-ltb}
 use Rattle.model.specs.declared.Verdict.{Verdict}
-use Rattle.model.specs.Question.{Question, numberOf, q1, q8, q9, q16, q18, q22, refusal, Outcome, ok, refused, ask, then, refusing, verdictOf}
+use Rattle.model.specs.Question.{Question, numberOf, questionOf, q1, q8, q9, q16, q18, q22, refusal, Outcome, ok, refused, ask, then, refusing, verdictOf}
 use Rattle.model.specs.Table.{Routine, routineOf, startOf, headOf, rows, codeLengthsAsk, lengthsAsk}
 use Rattle.model.specs.Machine.{Instruction, plain, end, malformed, instructionAt, Next, stop, enter, next, State, Step, goes, halts, faults, need, leave, perform, step, Ran, halted, paused, faulted, onward, finish, steps, runBlocks, Run, answerOf, startAsk, memoryLengthAsk, runAsk, opened, run}
-use Rattle.model.proofs.Logic.{byEqual}
+use Rattle.model.proofs.Logic.{number-unless}
 use Rattle.model.proofs.BlockSound.{Sized}
 use Rattle.model.proofs.TableLaws.{sized}
 use Rattle.model.proofs.MachineLaws.{goes-halts, goes-faults, Placed, placed-here, placed-step, later, laterRan, blocks-later}
@@ -21,7 +21,7 @@ use Rattle.table.proofs.Questions.{left, no-refusal, then-on, then-stops}
 use Rattle.table.proofs.Laws.{start-more}
 use Rattle.step.specs.declared.Exit.{Exit}
 use Rattle.step.specs.declared.Exit.the-variants.{To, Halted, No}
-use Rattle.step.specs.Answer.{at, questionOf, exitOf}
+use Rattle.step.specs.Answer.{at, exitOf}
 use Rattle.machine.specs.Run.{Covers, ranOf}
 
 -- ---- the questions that instructions are asked
@@ -64,16 +64,6 @@ module _ (P : Routine) where
       go (goes s') f g = g s'
       go (halts s') f g = f
       go (faults q s') f g = f
-
-asked-number : (n : ℕ) → (questionOf n ≡ q1 → ⊥) → numberOf (questionOf n) ≡ n
-unfolding questionOf
-asked-number n h =
-    byEqual n 7 (λ e. rw e)
-    (λ d7. byEqual n 8 (λ e. rw e)
-    (λ d8. byEqual n 9 (λ e. rw e)
-    (λ d9. byEqual n 18 (λ e. rw e)
-    (λ d18. byEqual n 22 (λ e. rw e)
-    (λ d22. absurd (h (rw (ne-eqb n 7 d7, ne-eqb n 8 d8, ne-eqb n 9 d9, ne-eqb n 18 d18, ne-eqb n 22 d22))))))))
 
 -- ---- where a block's end leads
 
@@ -154,7 +144,7 @@ module _ (P : Routine) where
     pub run-faults : (i : ℕ) → i ≡ P .start b + j → (k : ℕ) → x ≡ No k → ran k b i f r' m' ≡ rest (budget - f) b r m f
     unfolding finish exitOf answerOf NoFirst
     run-faults i ei k z =
-        let y : numberOf (questionOf k) ≡ k = asked-number k (λ p. steps-ask P (P .long b) (at b 0 r m f 0) (at b j r' m' f n) (sym e ∙ rw (z, p))) in
+        let y : numberOf (questionOf k) ≡ k = number-unless k (λ p. steps-ask P (P .long b) (at b 0 r m f 0) (at b j r' m' f n) (sym e ∙ rw (z, p))) in
         sym (block-more ∙ rw (z, ei, y))
 
   pub run-pauses : (budget f b i : ℕ) (r m : List ℕ) → budget ≤ f → i ≡ P .start b → ran 40 b i f r m ≡ rest (budget - f) b r m f

@@ -1,4 +1,4 @@
-// A block, and a run with its opening questions: Q16, Q17 and Q22.
+// The machine: a block, and a run with its opening questions.
 ghost use mathlib.Core.Path.{_≡_};
 ghost use Prim.Native.Nat.{ℕ, _+_, _/_, _<_, _≤_};
 ghost use lib.ListN.{length, getD};

@@ -2,11 +2,12 @@
 use mathlib.Core.Path.{_≡_, refl, sym, ap, subst, _∙_}
 use mathlib.Core.Logic.{_⊎_, inl, inr, _↔_}
 use mathlib.Core.Bool.{Bool, true, false, not, false≢true}
-use Prim.Native.Nat.{ℕ, zero, suc, _+_, _≤_, _<_}
+use Prim.Native.Nat.{ℕ, zero, suc, _+_, _-_, _≤_, _<_}
 use native.Mathlib.Omega.{arith}
 use lib.Dec.{ltb, leb, eqb}
+use lib.ListN.{List·getD-eq-default}
 use borrow.Author.Tests.{eqb-true, eqb-false, ltb-true, ltb-false}
-use Rattle.model.specs.Question.{_and_, _or_, pick, every, Question, numberOf, q1, q2, q3, q4, q5, q6, q7, q8, q9, q10, q11, q12, q13, q14, q15, q16, q17, q18, q19, q20, q21, q22, Refusal, Outcome, ok, refused, ask, then, firstNo, verdictOf}
+use Rattle.model.specs.Question.{_and_, _or_, pick, every, Question, numberOf, questions, questionOf, q1, q2, q3, q4, q5, q6, q7, q8, q9, q10, q11, q12, q13, q14, q15, q16, q17, q18, q19, q20, q21, q22, Refusal, Outcome, ok, refused, ask, then, firstNo, verdictOf}
 
 -- ---- tests
 
@@ -154,6 +155,23 @@ firstNo-refused (suc n) i f r e = go (f i) refl (λ k. firstNo-refused n (suc i)
           before = λ j lo hi. byEqual j i (λ s. rw s h) (λ d. F .before j (omega arith) hi);
         }
     go (refused s) h rest e = record { row = i; low = omega arith; high = omega arith; here = h ∙ e; before = λ j lo hi. absurd (omega arith) }
+
+-- ---- numbers of questions
+
+-- 1 to 22 are the numbers of their questions
+all-numbers : every 22 1 (λ k. eqb (numberOf (questionOf k)) k) ≡ true
+unfolding every questionOf _and_
+all-numbers = refl
+
+pub number-of : (n : ℕ) → 1 ≤ n → n ≤ 22 → numberOf (questionOf n) ≡ n
+number-of n l h = eqb-true _ _ (every-true 22 1 (λ k. eqb (numberOf (questionOf k)) k) all-numbers n l (omega arith))
+
+-- so is any number whose question is not q1
+pub number-unless : (n : ℕ) → (questionOf n ≡ q1 → ⊥) → numberOf (questionOf n) ≡ n
+unfolding questionOf
+number-unless n d =
+    byLess n 23 (λ h. byEqual n 0 (λ z. absurd (d (rw z))) (λ z. number-of n (omega arith) (omega arith)))
+    (λ h. absurd (d (List·getD-eq-default questions q1 {n = n - 1} (omega arith))))
 
 -- ---- verdicts
 

@@ -1,6 +1,8 @@
 -- Questions, the first no with its place, and the verdict made of it: what every call answers with.
 use mathlib.Core.Bool.{Bool, true, false}
-use Prim.Native.Nat.{ℕ, zero, suc}
+use mathlib.Core.List.{List, [], _∷_}
+use Prim.Native.Nat.{ℕ, zero, suc, _-_}
+use lib.ListN.{getD}
 use Rattle.model.specs.declared.Verdict.{Verdict}
 
 -- ---- tests
@@ -73,6 +75,13 @@ numberOf q19 = 19
 numberOf q20 = 20
 numberOf q21 = 21
 numberOf q22 = 22
+
+abbrev pub questions : List Question
+questions = q1 ∷ q2 ∷ q3 ∷ q4 ∷ q5 ∷ q6 ∷ q7 ∷ q8 ∷ q9 ∷ q10 ∷ q11 ∷ q12 ∷ q13 ∷ q14 ∷ q15 ∷ q16 ∷ q17 ∷ q18 ∷ q19 ∷ q20 ∷ q21 ∷ q22 ∷ []
+
+-- the question of a number, q1 where it is the number of none
+unfoldable pub questionOf : ℕ → Question
+questionOf n = getD questions (n - 1) q1
 
 -- 01: 'The first no gives the number and a place of two numbers'
 pub record Refusal : Type 0 where

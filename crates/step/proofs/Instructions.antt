@@ -9,6 +9,7 @@ use native.Mathlib.Omega.{arith}
 use lib.Dec.{ltb}
 use lib.ListN.{length, getD, set}
 use borrow.Author.Tests.{lt-ltb, le-ltb, ltb-true, eq-eqb, ne-eqb}
+use Rattle.model.specs.Question.{questionOf}
 use Rattle.model.specs.Word.{opcodeOf, aOf, bOf, cOf, sum, difference, product, signed, moved}
 use Rattle.model.specs.Table.{Routine}
 use Rattle.model.specs.Machine.{Plain, constant, copy, add, subtract, multiply, divide, move, load, store, End, halt, jump, ifEqual, ifLess, Instruction, plain, end, malformed, decode, hasForm, formed, wellFormed, put, reg, effect, addressed, registersAfter, memoryAfter, next, targetsExist, State, need, leave, perform}
@@ -19,7 +20,7 @@ use Rattle.instruction.proofs.Laws.{at-arithmetic, at-6, plain-word, end-word}
 use Rattle.step.specs.declared.Effect.{Effect}
 use Rattle.step.specs.declared.Effect.the-variants.{Put, Read, Write, Refused}
 use Rattle.step.specs.declared.Exit.the-variants.{To, Halted, No}
-use Rattle.step.specs.Answer.{at, questionOf, stepOf, past, does, exitOf}
+use Rattle.step.specs.Answer.{at, stepOf, past, does, exitOf}
 
 -- ---- the effect of an instruction inside a block
 

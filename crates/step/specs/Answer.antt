@@ -3,7 +3,7 @@ use mathlib.Core.List.{List}
 use Prim.Native.Nat.{ℕ, suc}
 use lib.Dec.{ltb, eqb}
 use lib.ListN.{length}
-use Rattle.model.specs.Question.{pick, Question, q1, q7, q8, q9, q18, q22}
+use Rattle.model.specs.Question.{pick, questionOf, q18}
 use Rattle.model.specs.Machine.{put, read, write, State, Step, goes, halts, faults, need, after, atHalt, entering}
 use Rattle.step.specs.declared.Effect.{Effect}
 use Rattle.step.specs.declared.Effect.the-variants.{Put, Read, Write, Refused}
@@ -13,10 +13,6 @@ use Rattle.step.specs.declared.Exit.the-variants.{To, Halted, No}
 -- block, offset, registers, memory, blocks finished, instructions carried out
 abbrev pub at : ℕ → ℕ → List ℕ → List ℕ → ℕ → ℕ → State
 at b j r m f n = record { block = b; offset = j; registers = r; memory = m; finished = f; carried = n }
-
--- the question that an instruction was refused with, by its number; q1 is asked at no instruction
-unfoldable pub questionOf : ℕ → Question
-questionOf n = pick (eqb n 7) q7 (pick (eqb n 8) q8 (pick (eqb n 9) q9 (pick (eqb n 18) q18 (pick (eqb n 22) q22 q1))))
 
 -- number 0: gone on to the state s'; else a no in the state s
 unfoldable pub stepOf : ℕ → State → State → Step

@@ -1,4 +1,4 @@
-// One instruction: its effect on registers and memory, or the exit that a block's last takes. Q7 to Q9 and Q18.
+// One instruction of a run: its questions, then its effect on registers and memory, or the exit that a block's last takes.
 ghost use mathlib.Core.Path.{_≡_};
 ghost use mathlib.Core.List.{List};
 ghost use Prim.Native.Nat.{ℕ, suc, _<_};
@@ -121,6 +121,7 @@ pub fn effect_of(registers: &[u32; 8], w: u32) -> Effect
     if op == LOAD {
         return Effect::Read(a, address(x, c));
     }
+    // A store: no other opcode is left.
     let v = registers[a];
     Effect::Write(address(x, c), v)
 }
@@ -199,6 +200,7 @@ pub fn leave(registers: &[u32; 8], w: u32, b: u32, count: u32) -> Exit
         }
         return Exit::To(b + 1);
     }
+    // If less: no other opcode is left.
     if less(x, registers[word::b(w)]) {
         return Exit::To(c);
     }

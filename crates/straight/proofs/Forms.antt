@@ -4,7 +4,7 @@ use mathlib.Core.Logic.{inl, inr}
 use mathlib.Core.Bool.{Bool, true, false}
 use Prim.Native.Nat.{ℕ, _<_, _≤_}
 use native.Mathlib.Omega.{arith}
-use Rattle.model.specs.Question.{Question, Refusal}
+use Rattle.model.specs.Question.{Question, questionOf, Refusal}
 use Rattle.model.specs.Word.{opcodeOf, aOf, bOf, cOf}
 use Rattle.model.specs.Table.{Tables}
 use Rattle.model.specs.Machine.{constant, copy, add, subtract, multiply, divide, move, load, store, Instruction, plain, end, malformed, decode, wellFormed}
@@ -14,7 +14,7 @@ use Rattle.model.proofs.Logic.{byTest, byEqual, byLess}
 use Rattle.instruction.specs.Form.{leadsOn, formNo}
 use Rattle.instruction.proofs.Forms.{row-1, row-2, row-3, row-4, row-5, row-6, row-7, row-8, row-9, decoded}
 use Rattle.instruction.proofs.Laws.{form-malformed, form-early}
-use Rattle.straight.specs.State.{questionOf, numbered, plainOf, earlyAsk}
+use Rattle.straight.specs.State.{numbered, plainOf, earlyAsk}
 
 -- ---- Q7 and Q8
 

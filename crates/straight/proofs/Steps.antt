@@ -11,7 +11,7 @@ use lib.Seq.{drop-cons, take-all}
 use borrow.Author.Tests.{lt-ltb, le-ltb, le-leb, lt-leb, eq-eqb, ne-eqb}
 use Rattle.model.specs.declared.Reference.{Reference}
 use Rattle.model.specs.declared.Reference.the-variants.{To, Nothing}
-use Rattle.model.specs.Question.{_and_, _or_, pick, Question, q10, q11, q12, Refusal, Outcome, ok, refused, ask}
+use Rattle.model.specs.Question.{_and_, _or_, pick, Question, questionOf, q10, q11, q12, Refusal, Outcome, ok, refused, ask}
 use Rattle.model.specs.Word.{kindOf, recordOf, opcodeOf, aOf, bOf, cOf}
 use Rattle.model.specs.Types.{typeOf, rename}
 use Rattle.model.specs.Table.{Tables, tablesOf, headOf, wordsOf, rowOf}
@@ -23,7 +23,7 @@ use Rattle.model.proofs.Lists.{map-set, getD-past, upFrom-at, length-upFrom}
 use Rattle.table.proofs.Laws.{row-length, words-length, head-at, tables-size, tables-words}
 use Rattle.fits.specs.Numbers.{frameOf, framesOf, valuesOf}
 use Rattle.fits.proofs.Numbers.{frames-at, frames-set, byKind, type-any, type-ref, type-maybe, type-tagged, type-present, type-same, type-span}
-use Rattle.straight.specs.State.{viewOf, viewsOf, reading, questionOf, numbered, plainOf, loadAsk, storeAsk, touched}
+use Rattle.straight.specs.State.{viewOf, viewsOf, reading, numbered, plainOf, loadAsk, storeAsk, touched}
 
 -- ---- names and type words
 

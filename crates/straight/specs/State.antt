@@ -4,7 +4,7 @@ use Prim.Native.Nat.{ℕ, zero, suc, _-_, _%_}
 use mathlib.Core.Bool.{Bool}
 use lib.Dec.{ltb}
 use lib.ListN.{getD}
-use Rattle.model.specs.Question.{pick, Question, q1, q2, q3, q4, q5, q6, q7, q8, q9, q10, q11, q12, q13, q14, q15, Refusal, Outcome, ok, refused, ask}
+use Rattle.model.specs.Question.{pick, Question, questionOf, q7, q8, q11, q12, Refusal, Outcome, ok, refused, ask}
 use Rattle.model.specs.Word.{opcodeOf, aOf, bOf, cOf}
 use Rattle.model.specs.Table.{Tables}
 use Rattle.model.specs.Machine.{Plain, constant, copy, add, subtract, multiply, divide, move, load, store, Instruction, plain, end, malformed}
@@ -31,10 +31,6 @@ reading registers words frames constants views fields since base =
     }
 
 -- ---- outcomes
-
--- the questions by number, up to the last of the check
-unfoldable pub questionOf : ℕ → Question
-questionOf n = getD (q1 ∷ q2 ∷ q3 ∷ q4 ∷ q5 ∷ q6 ∷ q7 ∷ q8 ∷ q9 ∷ q10 ∷ q11 ∷ q12 ∷ q13 ∷ q14 ∷ q15 ∷ []) (n - 1) q15
 
 -- number 0 goes on with a result; any other is the question that had a no
 unfoldable pub numbered : {A : Type 0} → (Question → Refusal) → ℕ → A → Outcome A

@@ -6,34 +6,25 @@ use Prim.Native.Nat.{ℕ, zero, suc, _+_, _-_, _*_, _%_, _<_, _≤_}
 use native.Mathlib.Numerals.{add-one}
 use native.Mathlib.Nat.{sub-zero, add-sub-cancel-left}
 use native.Mathlib.Omega.{arith}
-use lib.Dec.{ltb, eqb}
 use lib.ListN.{length, getD, set, take, drop, replicate, length-take, length-drop, length-set}
-use borrow.Author.Tests.{eq-eqb, ne-eqb, eqb-true}
+use borrow.Author.Tests.{eq-eqb, ne-eqb}
 use Rattle.model.specs.declared.Verdict.{Verdict}
 use Rattle.model.specs.declared.Reference.{Reference}
-use Rattle.model.specs.Question.{_and_, pick, every, Question, numberOf, Refusal, refusal, Outcome, ok, refused, ask, then, firstNo, passed, refusing, verdictOf}
+use Rattle.model.specs.Question.{Question, questionOf, Refusal, refusal, Outcome, ok, refused, ask, then, firstNo, passed, refusing, verdictOf}
 use Rattle.model.specs.Table.{Tables, tablesOf, Routine, routineOf, rows, headOf, wordsOf, startOf, typeLengthsAsk, codeLengthsAsk, typesAsk, lengthsAsk, annotationsAsk}
 use Rattle.model.specs.Machine.{Plain, constant, copy, add, subtract, multiply, divide, move, load, store, End, Instruction, plain, end, malformed, decode, targetsExist}
 use Rattle.model.specs.Reading.{Values, Reading, isOpen, seen, laidAt, zeros, upFrom, entry, fresh, viewed, viewedBefore, look, loaded, stored}
 use Rattle.model.specs.Check.{valueIn, onRecord, readPlain, readEdges, noAt, lastAt, readInstruction, readAt, readOn, blockAsk, judge, checkAsk, check}
-use Rattle.model.proofs.Logic.{byTest, byEqual, byLess, pick-both, every-true, ok-same, not-ok}
+use Rattle.model.proofs.Logic.{byTest, byEqual, byLess, pick-both, number-of, ok-same, not-ok}
 use Rattle.model.proofs.Lists.{length-upFrom}
 use Rattle.model.proofs.Inversion.{record-ok}
 use Rattle.table.proofs.Questions.{left, no-refusal, then-on, then-stops, first-on}
 use Rattle.fits.specs.Numbers.{framesOf, valuesOf}
-use Rattle.straight.specs.State.{viewsOf, reading, questionOf, numbered, earlyAsk}
+use Rattle.straight.specs.State.{viewsOf, reading, numbered, earlyAsk}
 use Rattle.straight.proofs.Steps.{size-past}
 use Rattle.branch.specs.End.{lastAsk}
 
 -- ---- numbers
-
--- the number of a question is its number
-all-numbers : every 15 1 (λ k. eqb (numberOf (questionOf k)) k) ≡ true
-unfolding every questionOf _and_
-all-numbers = refl
-
-pub number-of : (z : ℕ) → (z ≡ 0 → ⊥) → z ≤ 15 → numberOf (questionOf z) ≡ z
-number-of z n h = eqb-true _ _ (every-true 15 1 (λ k. eqb (numberOf (questionOf k)) k) all-numbers z (omega arith) (omega arith))
 
 abbrev pub verdict : ℕ → ℕ → ℕ → Verdict
 verdict n b i = record { number = n; first = b; second = i }
@@ -91,7 +82,7 @@ module _ (𝒯 : Tables) (P : Routine) (b n j : ℕ) (st : Reading) (w : ℕ) (e
 
     pub read-stops : (z ≡ 0 → ⊥) → z ≤ 15 → verdict z b (P .start b + j) ≡ verdictOf (readOn 𝒯 P b (n - j) j st)
     unfolding readOn then verdictOf
-    read-stops e l = rw (left n j (omega arith), at, numbered-no (noAt 𝒯 P b j) z st′ e, number-of z e l)
+    read-stops e l = rw (left n j (omega arith), at, numbered-no (noAt 𝒯 P b j) z st′ e, number-of z (omega arith) (omega arith))
 
   -- the last
   module _ (h : j + 1 ≡ n) (es : (place : Question → Refusal) → numbered place z tt ≡ lastAsk 𝒯 P place b (decode w) st) where
@@ -111,7 +102,7 @@ module _ (𝒯 : Tables) (P : Routine) (b n j : ℕ) (st : Reading) (w : ℕ) (e
 
     pub read-refuses : (z ≡ 0 → ⊥) → z ≤ 15 → verdict z b (P .start b + j) ≡ verdictOf (readOn 𝒯 P b (n - j) j st)
     unfolding verdictOf
-    read-refuses e l = rw (whole, numbered-no (noAt 𝒯 P b j) z (tt {0}) e, number-of z e l)
+    read-refuses e l = rw (whole, numbered-no (noAt 𝒯 P b j) z (tt {0}) e, number-of z (omega arith) (omega arith))
 
 -- ---- the fields at hand stay eight
 
