@@ -13,7 +13,7 @@ use Rattle.model.specs.Word.{kindOf, firstOf, secondOf, opcodeOf, aOf, bOf, cOf
 use Rattle.model.specs.Types.{depOf, renameDep}
 use Rattle.model.specs.Table.{Tables, tablesOf, Routine, routineOf, rows, wordsOf}
 use Rattle.model.specs.Machine.{End, halt, jump, ifEqual, ifLess, Instruction, plain, end, malformed, decode, wellFormed, targetsExist}
-use Rattle.model.specs.Reading.{Values, birthplace, typed, knownEqual, rowFits, Reading, notZero, below, notBelow, taken, untaken}
+use Rattle.model.specs.Reading.{Values, birthplace, typed, knownEqual, rowFits, Reading, withKind, notZero, below, notBelow, taken, untaken}
 use Rattle.model.specs.Check.{readEdges}
 use Rattle.model.proofs.Logic.{byTest, byEqual, byLess, and-true}
 use Rattle.table.proofs.Laws.{row-inside}
@@ -130,13 +130,13 @@ module _ (words frames constants : List ℕ) (v : ℕ) where
   zero-tested k n = rw (ne-eqb k 0 n) kept
 
   module _ (k : ℕ) (z : k ≡ 0) (j : ℕ) (ej : j ≡ kindOf m) where
-    pub zero-maybe : j ≡ 2 → valuesOf (set words v (16777216 + m % 16777216)) frames constants 0 0 ≡ pick (eqb k 0) (notZero vs v (typed vs v)) vs
+    pub zero-maybe : j ≡ 2 → (r : ℕ) → r ≡ withKind 1 m → valuesOf (set words v r) frames constants 0 0 ≡ pick (eqb k 0) (notZero vs v (typed vs v)) vs
     unfolding notZero typed
-    zero-maybe e = rw (eq-eqb k 0 z, type-maybe σ m (sym ej ∙ e))
+    zero-maybe e r er = rw (er, eq-eqb k 0 z, type-maybe σ m (sym ej ∙ e))
 
-    pub zero-tagged : j ≡ 3 → valuesOf (set words v (67108864 + m % 16777216)) frames constants 0 0 ≡ pick (eqb k 0) (notZero vs v (typed vs v)) vs
+    pub zero-tagged : j ≡ 3 → (r : ℕ) → r ≡ withKind 4 m → valuesOf (set words v r) frames constants 0 0 ≡ pick (eqb k 0) (notZero vs v (typed vs v)) vs
     unfolding notZero typed
-    zero-tagged e = rw (eq-eqb k 0 z, type-tagged σ m (sym ej ∙ e))
+    zero-tagged e r er = rw (er, eq-eqb k 0 z, type-tagged σ m (sym ej ∙ e))
 
     pub zero-other : (j ≡ 2 → ⊥) → (j ≡ 3 → ⊥) → valuesOf (set words v m) frames constants 0 0 ≡ pick (eqb k 0) (notZero vs v (typed vs v)) vs
     unfolding notZero typed
@@ -169,18 +169,18 @@ module _ (words frames constants : List ℕ) (v : ℕ) where
         unfolding below typed _and_
         below-not q = kept ∙ rw (type-span σ m 1 (sym ej ∙ e), ← own (secondOf m) ep, ← dep-name u h, q)
 
-        pub below-is : knownEqual vs (depAt u) (depAt d) ≡ true → valuesOf (set words v (134217728 + m % 16777216)) frames constants 0 0 ≡ below vs v u (typed vs v)
+        pub below-is : knownEqual vs (depAt u) (depAt d) ≡ true → (r : ℕ) → r ≡ withKind 8 m → valuesOf (set words v r) frames constants 0 0 ≡ below vs v u (typed vs v)
         unfolding below typed _and_
-        below-is q = rw (type-span σ m 1 (sym ej ∙ e), ← own (secondOf m) ep, ← dep-name u h, q)
+        below-is q r er = rw (er, type-span σ m 1 (sym ej ∙ e), ← own (secondOf m) ep, ← dep-name u h, q)
 
       module _ (e : j ≡ 6) (ep : p ≡ firstOf m) where
         pub not-below-not : knownEqual vs (depAt u) (depAt d) ≡ false → valuesOf (set words v m) frames constants 0 0 ≡ notBelow vs v u (typed vs v)
         unfolding notBelow typed _and_
         not-below-not q = kept ∙ rw (type-span σ m 0 (sym ej ∙ e), ← own (firstOf m) ep, ← dep-name u h, q)
 
-        pub not-below-is : knownEqual vs (depAt u) (depAt d) ≡ true → valuesOf (set words v (117440512 + m % 16777216)) frames constants 0 0 ≡ notBelow vs v u (typed vs v)
+        pub not-below-is : knownEqual vs (depAt u) (depAt d) ≡ true → (r : ℕ) → r ≡ withKind 7 m → valuesOf (set words v r) frames constants 0 0 ≡ notBelow vs v u (typed vs v)
         unfolding notBelow typed _and_
-        not-below-is q = rw (type-span σ m 0 (sym ej ∙ e), ← own (firstOf m) ep, ← dep-name u h, q)
+        not-below-is q r er = rw (er, type-span σ m 0 (sym ej ∙ e), ← own (firstOf m) ep, ← dep-name u h, q)
 
 -- ---- Q14 and Q15
 

@@ -26,23 +26,6 @@ const TAKEN: u32 = 14;
 
 const UNTAKEN: u32 = 15;
 
-// Kinds of type words, and the weight of a kind in its word.
-const REF: u32 = 1;
-
-const MAYBE: u32 = 2;
-
-const TAGGED: u32 = 3;
-
-const PRESENT: u32 = 4;
-
-const RUN: u32 = 6;
-
-const FROM: u32 = 7;
-
-const IN: u32 = 8;
-
-const KIND: u32 = 16777216;
-
 // ---- what an edge tells
 
 // The type word of v past an untaken opcode 11 with the constant k: past 0, Maybe is Ref and Tagged is Present.
@@ -57,11 +40,11 @@ fn not_zero(words: &[u32; 256], v: u8, k: u32) -> u32
         return w;
     }
     let kind = word::kind(w);
-    if kind == MAYBE {
-        return REF * KIND + w % KIND;
+    if kind == word::MAYBE {
+        return word::with_kind(word::REF, w);
     }
-    if kind == TAGGED {
-        return PRESENT * KIND + w % KIND;
+    if kind == word::TAGGED {
+        return word::with_kind(word::PRESENT, w);
     }
     w
 }
@@ -72,14 +55,14 @@ fn below(words: &[u32; 256], frames: &[u8; 32], constants: &[u32; 32], v: u8, u:
     ensures { λ r. ⌜ valuesOf (set (now (words .entry)) v r) (now (frames .entry)) (now (constants .entry)) 0 0 ≡ below (valuesOf (now (words .entry)) (now (frames .entry)) (now (constants .entry)) 0 0) v u (typed (valuesOf (now (words .entry)) (now (frames .entry)) (now (constants .entry)) 0 0) v) ⌝ }
 {
     let w = words[v as usize];
-    if word::kind(w) != FROM {
+    if word::kind(w) != word::FROM {
         return w;
     }
     let e = fits::sibling(fits::frame(frames, v as u32), word::second_dependency(w));
     if !fits::known_equal(words, frames, constants, 0, 0, u, e) {
         return w;
     }
-    IN * KIND + w % KIND
+    word::with_kind(word::IN, w)
 }
 
 // The type word of v past an untaken opcode 12: Run with u known equal to its start is From.
@@ -88,14 +71,14 @@ fn not_below(words: &[u32; 256], frames: &[u8; 32], constants: &[u32; 32], v: u8
     ensures { λ r. ⌜ valuesOf (set (now (words .entry)) v r) (now (frames .entry)) (now (constants .entry)) 0 0 ≡ notBelow (valuesOf (now (words .entry)) (now (frames .entry)) (now (constants .entry)) 0 0) v u (typed (valuesOf (now (words .entry)) (now (frames .entry)) (now (constants .entry)) 0 0) v) ⌝ }
 {
     let w = words[v as usize];
-    if word::kind(w) != RUN {
+    if word::kind(w) != word::RUN {
         return w;
     }
     let d = fits::sibling(fits::frame(frames, v as u32), word::first_dependency(w));
     if !fits::known_equal(words, frames, constants, 0, 0, u, d) {
         return w;
     }
-    FROM * KIND + w % KIND
+    word::with_kind(word::FROM, w)
 }
 
 // ---- edges

@@ -17,21 +17,6 @@ ghost use Rattle.fits.specs.Numbers.{framesOf, valuesOf, depAt, siblingO
 ghost use Rattle.fits.specs.Numbers.{meant, listed, contained, shared, placeFits, tagOrBeyond};
 use model::Reference;
 
-// Kinds of type words. From Run on they are spans, of rank kind minus Run.
-const ANY: u32 = 0;
-
-const REF: u32 = 1;
-
-const MAYBE: u32 = 2;
-
-const TAGGED: u32 = 3;
-
-const PRESENT: u32 = 4;
-
-const SAME: u32 = 5;
-
-const IN: u32 = 8;
-
 // The known constants of a value: by opcode 1, by its type Same, by a taken opcode 11.
 pub struct Constants {
     pub born: u32,
@@ -67,7 +52,7 @@ pub fn sibling(frame: u32, x: u32) -> u32
     requires { ⌜ (frame ≤ 248) × (x < 256) ⌝ }
     ensures { λ r. ⌜ depAt r ≡ siblingOf frame x ⌝ }
 {
-    if x < 8 {
+    if x < word::CONSTANTS {
         return frame + x;
     }
     x + 248
@@ -78,7 +63,7 @@ fn named(names: &[u8; 8], x: u32) -> u32
     requires { ⌜ x < 256 ⌝ }
     ensures { λ r. ⌜ depAt r ≡ namedOf (now (names .entry)) x ⌝ }
 {
-    if x < 8 {
+    if x < word::CONSTANTS {
         return wide(names[x as usize]);
     }
     x + 248
@@ -90,11 +75,11 @@ fn named(names: &[u8; 8], x: u32) -> u32
 fn same_constant(w: u32) -> u32
     ensures { λ r. ⌜ ((σ : ℕ → ℕ) → held r ≡ sameConstant (rename σ (typeOf w))) ⌝ }
 {
-    if word::kind(w) != SAME {
+    if word::kind(w) != word::SAME {
         return 0;
     }
     let x = word::first_dependency(w);
-    if x < 8 {
+    if x < word::CONSTANTS {
         return 0;
     }
     x - 7
@@ -172,7 +157,7 @@ fn says_same(words: &[u32; 256], frames: &[u8; 32], x: u32, y: u32) -> bool
         return false;
     }
     let w = words[x as usize];
-    if word::kind(w) != SAME {
+    if word::kind(w) != word::SAME {
         return false;
     }
     sibling(frame(frames, x), word::first_dependency(w)) == y
@@ -304,13 +289,13 @@ fn is_ref(
 {
     let w = words[v as usize];
     let kind = word::kind(w);
-    if kind == REF {
+    if kind == word::REF {
         return word::record_type(w) == t;
     }
-    if kind == IN {
+    if kind == word::IN {
         return word::record_type(w) == t;
     }
-    if kind != PRESENT {
+    if kind != word::PRESENT {
         return false;
     }
     let x = sibling(frame(frames, v as u32), word::first_dependency(w));
@@ -332,10 +317,10 @@ fn is_maybe(
 {
     let w = words[v as usize];
     let kind = word::kind(w);
-    if kind == MAYBE {
+    if kind == word::MAYBE {
         return word::record_type(w) == t;
     }
-    if kind != TAGGED {
+    if kind != word::TAGGED {
         return false;
     }
     let x = sibling(frame(frames, v as u32), word::first_dependency(w));
@@ -357,11 +342,11 @@ fn is_present(
 {
     let w = words[v as usize];
     let kind = word::kind(w);
-    if kind == PRESENT {
+    if kind == word::PRESENT {
         let x = sibling(frame(frames, v as u32), word::first_dependency(w));
         return known_equal(words, frames, constants, tested, equal, x, y);
     }
-    if kind == REF {
+    if kind == word::REF {
         return known_tag(
             tags,
             words,
@@ -372,7 +357,7 @@ fn is_present(
             word::record_type(w),
         );
     }
-    if kind != IN {
+    if kind != word::IN {
         return false;
     }
     known_tag(
@@ -401,11 +386,11 @@ fn is_tagged(
 {
     let w = words[v as usize];
     let kind = word::kind(w);
-    if kind == TAGGED {
+    if kind == word::TAGGED {
         let x = sibling(frame(frames, v as u32), word::first_dependency(w));
         return known_equal(words, frames, constants, tested, equal, x, y);
     }
-    if kind == MAYBE {
+    if kind == word::MAYBE {
         return known_tag(
             tags,
             words,
@@ -484,7 +469,7 @@ fn fits_pointer(
     if is_ref(tags, words, frames, constants, tested, equal, v, t) {
         return true;
     }
-    if word::kind(w) == REF {
+    if word::kind(w) == word::REF {
         return false;
     }
     if known_zero(words, constants, tested, equal, v) {
@@ -509,7 +494,7 @@ fn fits_tagged(
     ensures { λ r. ⌜ ((types : List ℕ) → r ≡ fits (tablesOf types (now (tags .entry))) (valuesOf (now (words .entry)) (now (frames .entry)) (now (constants .entry)) tested equal) v (meant (now (names .entry)) w)) ⌝ }
 {
     let y = named(names, word::first_dependency(w));
-    if word::kind(w) == PRESENT {
+    if word::kind(w) == word::PRESENT {
         return is_present(tags, words, frames, constants, tested, equal, v, y);
     }
     if known_zero(words, constants, tested, equal, v) {
@@ -533,16 +518,16 @@ fn value_fits(
     ensures { λ r. ⌜ ((types : List ℕ) → r ≡ fits (tablesOf types (now (tags .entry))) (valuesOf (now (words .entry)) (now (frames .entry)) (now (constants .entry)) tested equal) v (meant (now (names .entry)) w)) ⌝ }
 {
     let kind = word::kind(w);
-    if kind == ANY {
+    if kind == word::ANY {
         return true;
     }
-    if kind < TAGGED {
+    if kind < word::TAGGED {
         return fits_pointer(tags, words, frames, constants, tested, equal, v, w, names);
     }
-    if kind < SAME {
+    if kind < word::SAME {
         return fits_tagged(tags, words, frames, constants, tested, equal, v, w, names);
     }
-    if kind == SAME {
+    if kind == word::SAME {
         let y = named(names, word::first_dependency(w));
         return known_equal(words, frames, constants, tested, equal, v as u32, y);
     }
@@ -647,13 +632,13 @@ pub fn reference(
 {
     let w = words[v as usize];
     let kind = word::kind(w);
-    if kind == REF {
+    if kind == word::REF {
         return Reference::To(word::record_type(w));
     }
-    if kind == IN {
+    if kind == word::IN {
         return Reference::To(word::record_type(w));
     }
-    if kind != PRESENT {
+    if kind != word::PRESENT {
         return Reference::Nothing;
     }
     let x = sibling(frame(frames, v as u32), word::first_dependency(w));

@@ -13,31 +13,13 @@ ghost use Rattle.meaning.specs.Search.{firstFalse, placeMeets, Legible, 
 
 pub mod owner;
 
-// Kinds of type words.
-const ANY: u32 = 0;
-
-const REF: u32 = 1;
-
-const MAYBE: u32 = 2;
-
-const TAGGED: u32 = 3;
-
-const SAME: u32 = 5;
-
-const RUN: u32 = 6;
-
-const FROM: u32 = 7;
-
-// Dependency bytes from here on are constants.
-const CONSTANTS: u32 = 8;
-
 // The word that dependency byte x stands for: one of the names' words, or a constant.
 fn dependency(names: &[u32], x: u32) -> u32
     requires { ⌜ (x < 8 → x < length (now names)) ⌝ }
     ensures { λ r. ⌜ r ≡ wordOf (λ g. getD (now (names .entry)) g 0) (depOf x) ⌝ }
 {
-    if CONSTANTS <= x {
-        return x - CONSTANTS;
+    if word::CONSTANTS <= x {
+        return x - word::CONSTANTS;
     }
     names[x as usize]
 }
@@ -59,13 +41,13 @@ fn is_placed(kind: u32, d: u32, e: u32, p: u32) -> bool
     requires { ⌜ (6 ≤ kind) × (kind ≤ 8) ⌝ }
     ensures { λ r. ⌜ ((𝒯 : Tables) (allocations : List ℕ) → r ≡ rankTest 𝒯 allocations (kind - 6) d e p) ⌝ }
 {
-    if kind == RUN {
+    if kind == word::RUN {
         return true;
     }
     if p < d {
         return false;
     }
-    if kind == FROM {
+    if kind == word::FROM {
         return true;
     }
     p < e
@@ -109,27 +91,27 @@ fn is_met(types: &[u32], tags: &[u32], owners: &[u32; 16384], names: &[u32], w: 
         → r ≡ meets (tablesOf (now (types .entry)) (now (tags .entry))) allocations (typeOf w) (λ g. getD (now (names .entry)) g 0) p) ⌝ }
 {
     let kind = word::kind(w);
-    if kind == ANY {
+    if kind == word::ANY {
         return true;
     }
     let t = word::record_type(w);
-    if kind == REF {
+    if kind == word::REF {
         return owner::starts(owners, p, t);
     }
-    if kind == MAYBE {
+    if kind == word::MAYBE {
         if p == 0 {
             return true;
         }
         return owner::starts(owners, p, t);
     }
     let d = dependency(names, word::first_dependency(w));
-    if kind < SAME {
+    if kind < word::SAME {
         if p == 0 {
-            return kind == TAGGED;
+            return kind == word::TAGGED;
         }
         return is_tagged(tags, owners, d, p);
     }
-    if kind == SAME {
+    if kind == word::SAME {
         return p == d;
     }
     let e = dependency(names, word::second_dependency(w));

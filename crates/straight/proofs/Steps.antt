@@ -127,7 +127,7 @@ module _ (types tags : List ℕ) (w c : ℕ) where
     unfolding movedWord
     moved-not q = rw (spans, q)
 
-    pub moved-on : steady n and eqb (c % n) 0 ≡ true → 100663296 + w % 16777216 ≡ movedWord (tablesOf types tags) w c
+    pub moved-on : steady n and eqb (c % n) 0 ≡ true → withKind 6 w ≡ movedWord (tablesOf types tags) w c
     unfolding movedWord
     moved-on q = rw (spans, q)
 

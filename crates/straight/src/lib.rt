@@ -30,11 +30,6 @@ const OFFSET: u32 = 11;
 
 const OTHER_RECORD: u32 = 12;
 
-// The first kind of a span, and the weight of a kind in its type word.
-const RUN: u32 = 6;
-
-const KIND: u32 = 16777216;
-
 // No record is open.
 pub const NO_BASE: u32 = 256;
 
@@ -143,13 +138,13 @@ fn moved_word(types: &[u32], w: u32, c: u32) -> u32
     requires { ⌜ length (now types) % 9 ≡ 0 ⌝ }
     ensures { λ r. ⌜ ((tags : List ℕ) → r ≡ movedWord (tablesOf (now (types .entry)) tags) w c) ⌝ }
 {
-    if word::kind(w) < RUN {
+    if word::kind(w) < word::RUN {
         return 0;
     }
     if !divides(size(types, word::record_type(w)), c) {
         return 0;
     }
-    RUN * KIND + w % KIND
+    word::with_kind(word::RUN, w)
 }
 
 // ---- loads and stores

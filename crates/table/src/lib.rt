@@ -35,20 +35,6 @@ const LONGEST_BLOCK: u32 = 32;
 // The names in an annotation are the registers.
 const REGISTERS: u32 = 8;
 
-// Kinds of type words: from Tagged on they have a dependency, from Run on a record type and two dependencies; In is the last.
-const REF: u32 = 1;
-
-const MAYBE: u32 = 2;
-
-const TAGGED: u32 = 3;
-
-const RUN: u32 = 6;
-
-const IN: u32 = 8;
-
-// Dependency bytes from here on are constants.
-const CONSTANTS: u32 = 8;
-
 // The numbers of the questions Q1 to Q6.
 const LENGTHS: u32 = 1;
 
@@ -166,13 +152,13 @@ pub fn code_lengths(blocks: usize, code: usize) -> Verdict
 fn uses_record(kind: u32) -> bool
     ensures { λ r. ⌜ r ≡ usesRecord kind ⌝ }
 {
-    if kind == REF {
+    if kind == word::REF {
         return true;
     }
-    if kind == MAYBE {
+    if kind == word::MAYBE {
         return true;
     }
-    RUN <= kind
+    word::RUN <= kind
 }
 
 // A record type t of a kind that uses it exists; of another kind it is zero.
@@ -195,7 +181,7 @@ fn dependency_well(used: bool, n: u32, x: u32) -> bool
     if x < n {
         return true;
     }
-    CONSTANTS <= x
+    word::CONSTANTS <= x
 }
 
 // Whether w, of kind Run, From or In, is a type word over count record types and n names. Each of its parts is in use.
@@ -220,16 +206,16 @@ pub fn well_made(count: u32, n: u32, w: u32) -> bool
         return true;
     }
     let kind = word::kind(w);
-    if IN < kind {
+    if word::IN < kind {
         return false;
     }
-    if RUN <= kind {
+    if word::RUN <= kind {
         return span_well(count, n, w);
     }
     if !record_well(count, kind, word::record_type(w)) {
         return false;
     }
-    if !dependency_well(TAGGED <= kind, n, word::first_dependency(w)) {
+    if !dependency_well(word::TAGGED <= kind, n, word::first_dependency(w)) {
         return false;
     }
     word::second_dependency(w) == 0

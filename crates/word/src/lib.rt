@@ -4,6 +4,7 @@ ghost use Prim.Native.Nat.{_/_, _<_};
 ghost use Rattle.model.specs.Word.{kindOf, recordOf, firstOf, secondOf};
 ghost use Rattle.model.specs.Word.{opcodeOf, aOf, bOf, cOf};
 ghost use Rattle.model.specs.Word.{sum, difference, product, signed, moved};
+ghost use Rattle.model.specs.Reading.{withKind};
 
 // ---- sums, differences and products modulo 2^32
 
@@ -59,10 +60,43 @@ pub fn moved(x: u32, d: i32) -> u32
 
 // ---- parts of a type word
 
+// Kinds of type words. From Tagged on they have a dependency, from Run on they are spans: a record type and two dependencies.
+pub const ANY: u32 = 0;
+
+pub const REF: u32 = 1;
+
+pub const MAYBE: u32 = 2;
+
+pub const TAGGED: u32 = 3;
+
+pub const PRESENT: u32 = 4;
+
+pub const SAME: u32 = 5;
+
+pub const RUN: u32 = 6;
+
+pub const FROM: u32 = 7;
+
+pub const IN: u32 = 8;
+
+// The weight of a kind in its type word.
+const KIND: u32 = 16777216;
+
+// Dependency bytes from here on are constants.
+pub const CONSTANTS: u32 = 8;
+
 pub fn kind(w: u32) -> u32
     ensures { λ r. ⌜ (r ≡ kindOf w) × (r < 256) ⌝ }
 {
-    w / 16777216
+    w / KIND
+}
+
+// w with another kind.
+pub fn with_kind(kind: u32, w: u32) -> u32
+    requires { ⌜ kind < 256 ⌝ }
+    ensures { λ r. ⌜ r ≡ withKind kind w ⌝ }
+{
+    kind * KIND + w % KIND
 }
 
 pub fn record_type(w: u32) -> u32

@@ -37,18 +37,16 @@ returns-2 c =
     (c .before .before .sibling .ensures) (omega arith) (c .before .before .before .second-dependency .ensures .0) (told-no
     (c .before .known-equal .ensures) (c .if2 .taken))
 
-mul-result : tie.Need-mul-result
-mul-result c = search needs
-
-add-result : tie.Need-add-result
-add-result c = search needs
+with-kind-requires : tie.Need-with-kind-requires
+with-kind-requires c κs = search needs
 
 returns-3 : tie.Need-returns-3
 returns-3 c =
-    below-is _ _ _ _ _ (c .before .before .before .before .before .before .before .before .pre) _
-    (c .before .before .before .before .before .before .kind .ensures .0) _ _ _ (c .before .before .before .before .frame .ensures .0)
-    (c .before .before .sibling .ensures) (omega arith) (c .before .before .before .second-dependency .ensures .0) (told-yes
-    (c .before .known-equal .ensures) (c .if2 .left))
+    below-is _ _ _ _ _ (c .before .before .before .before .before .before .before .before .before .pre) _
+    (c .before .before .before .before .before .before .before .kind .ensures .0) _ _ _ (c .before .before .before .before .before .frame .ensures .0)
+    (c .before .before .before .sibling .ensures) (omega arith) (c .before .before .before .before .second-dependency .ensures .0) (told-yes
+    (c .before .before .known-equal .ensures) (c .before .if2 .left)) _
+    (c .with-kind .ensures)
 
 pub below-spec : {M : Type 1} → statement M
 below-spec =
@@ -63,6 +61,5 @@ below-spec =
     sibling-requires
     known-equal-requires
     returns-2
-    mul-result
-    add-result
+    with-kind-requires
     returns-3)

@@ -20,29 +20,23 @@ returns c =
 kind-requires : tie.Need-kind-requires
 kind-requires c κs = search needs
 
-mul-result : tie.Need-mul-result
-mul-result c = search needs
-
-add-result : tie.Need-add-result
-add-result c = search needs
+with-kind-requires : tie.Need-with-kind-requires
+with-kind-requires c κs = search needs
 
 returns-2 : tie.Need-returns-2
 returns-2 c =
-    λ frames constants. zero-maybe (now (c .before .before .before .before .args .words)) frames constants
-    (c .before .before .before .before .args .v) (c .before .before .before .before .args .k) (omega arith) _ (c .before .kind .ensures .0)
-    (omega arith)
+    λ frames constants. zero-maybe (now (c .before .before .before .before .before .args .words)) frames constants
+    (c .before .before .before .before .before .args .v) (c .before .before .before .before .before .args .k) (omega arith) _ (c .before .before .kind .ensures .0)
+    (omega arith) _ (c .with-kind .ensures)
 
-mul-result-2 : tie.Need-mul-result-2
-mul-result-2 c = search needs
-
-add-result-2 : tie.Need-add-result-2
-add-result-2 c = search needs
+with-kind-requires-2 : tie.Need-with-kind-requires-2
+with-kind-requires-2 c κs = search needs
 
 returns-3 : tie.Need-returns-3
 returns-3 c =
-    λ frames constants. zero-tagged (now (c .before .before .before .before .before .args .words)) frames constants
-    (c .before .before .before .before .before .args .v) (c .before .before .before .before .before .args .k) (omega arith) _
-    (c .before .before .kind .ensures .0) (omega arith)
+    λ frames constants. zero-tagged (now (c .before .before .before .before .before .before .args .words)) frames constants
+    (c .before .before .before .before .before .before .args .v) (c .before .before .before .before .before .before .args .k) (omega arith) _
+    (c .before .before .before .kind .ensures .0) (omega arith) _ (c .with-kind2 .ensures)
 
 returns-4 : tie.Need-returns-4
 returns-4 c =
@@ -58,10 +52,8 @@ not-zero-spec =
     element-copy-out-w
     returns
     kind-requires
-    mul-result
-    add-result
+    with-kind-requires
     returns-2
-    mul-result-2
-    add-result-2
+    with-kind-requires-2
     returns-3
     returns-4)

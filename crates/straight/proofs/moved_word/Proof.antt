@@ -1,4 +1,5 @@
 -- `straight::moved_word` meets its contract.
+use mathlib.Core.Path.{_∙_}
 use native.Mathlib.Omega.{arith}
 use borrow.Author.Needs.{needs}
 use Rattle.model.proofs.Logic.{told-no, told-yes}
@@ -26,16 +27,13 @@ returns-2 c =
     λ tags. moved-not _ _ _ _ (omega arith) _ _ (c .before .before .before .record-type .ensures .0) (c .before .before .size .ensures .0)
     (told-no (c .before .divides .ensures) (c .if2 .taken))
 
-mul-result : tie.Need-mul-result
-mul-result c = search needs
-
-add-result : tie.Need-add-result
-add-result c = search needs
+with-kind-requires : tie.Need-with-kind-requires
+with-kind-requires c κs = search needs
 
 returns-3 : tie.Need-returns-3
 returns-3 c =
-    λ tags. moved-on _ _ _ _ (omega arith) _ _ (c .before .before .before .record-type .ensures .0) (c .before .before .size .ensures .0)
-    (told-yes (c .before .divides .ensures) (c .if2 .left))
+    λ tags. c .with-kind .ensures ∙ moved-on _ _ _ _ (omega arith) _ _ (c .before .before .before .before .record-type .ensures .0) (c .before .before .before .size .ensures .0)
+    (told-yes (c .before .before .divides .ensures) (c .before .if2 .left))
 
 pub moved-word-spec : {M : Type 1} → statement M
 moved-word-spec =
@@ -47,6 +45,5 @@ moved-word-spec =
     size-requires
     divides-requires
     returns-2
-    mul-result
-    add-result
+    with-kind-requires
     returns-3)
