@@ -9,8 +9,7 @@ ghost use Rattle.model.specs.Allocation.{laid, rowsAsk, allocationsAsk};
 ghost use Rattle.model.specs.Machine.{memoryLengthAsk};
 ghost use Rattle.model.specs.MemoryCheck.{layoutAsk};
 use model::Verdict;
-
-pub mod answer;
+use table::answer;
 
 // Words of an allocation row: start and record type.
 const ROW_WORDS: usize = 2;
@@ -37,10 +36,10 @@ pub fn memory_length(n: usize) -> Verdict
     ensures { λ r. ⌜ r ≡ verdictOf (memoryLengthAsk n) ⌝ }
 {
     if n < 1 {
-        return answer::refused(MEMORY_LENGTH, 0, 0);
+        return answer::refused(MEMORY_LENGTH, 0);
     }
     if MOST_MEMORY < n {
-        return answer::refused(MEMORY_LENGTH, 0, 0);
+        return answer::refused(MEMORY_LENGTH, 0);
     }
     answer::passed()
 }
@@ -85,7 +84,7 @@ fn rows(types: &[u32], allocations: &[u32], top: usize) -> Verdict
         let p = allocations[k * ROW_WORDS];
         let t = allocations[k * ROW_WORDS + 1];
         if !is_laid(types, top, low, p, t) {
-            return answer::refused(ALLOCATION, k, 0);
+            return answer::refused(ALLOCATION, k);
         }
         low = (p as usize) + (table::head(types, t as usize) as usize);
         k += 1;
@@ -98,10 +97,10 @@ fn allocations(types: &[u32], allocations: &[u32], top: usize) -> Verdict
     ensures { λ r. ⌜ ((tags : List ℕ) → r ≡ verdictOf (allocationsAsk (tablesOf (now (types .entry)) tags) top (now (allocations .entry)))) ⌝ }
 {
     if allocations.len() % ROW_WORDS != 0 {
-        return answer::refused(ALLOCATION, 0, 0);
+        return answer::refused(ALLOCATION, 0);
     }
     if MOST_ALLOCATIONS < allocations.len() {
-        return answer::refused(ALLOCATION, 0, 0);
+        return answer::refused(ALLOCATION, 0);
     }
     rows(types, allocations, top)
 }

@@ -10,9 +10,9 @@ ghost use Rattle.model.specs.MemoryCheck.{recordsAsk, registerAsk, layoutAsk, m
 ghost use Rattle.meaning.specs.Owners.{Owned};
 ghost use Rattle.meaning.specs.Search.{Sized};
 ghost use Rattle.memory.specs.Entry.{routineAsk};
-use layout::answer;
 use meaning::owner;
 use model::Verdict;
+use table::answer;
 
 // Words of an allocation row: start and record type.
 const ROW_WORDS: usize = 2;
@@ -52,7 +52,7 @@ fn records(
         let n = table::head(types, t) as usize;
         let f = meaning::first_unmet(types, tags, owners, types, t, &memory[start..], n);
         if f < n {
-            return answer::refused(FIELD, k, f);
+            return answer::refused_at(FIELD, k, f);
         }
         k += 1;
     }
@@ -93,7 +93,7 @@ fn routine(types: &[u32], blocks: &[u32], code: &[u32], block: u32) -> Verdict
         return made;
     }
     if blocks.len() / TABLE_ROW_WORDS <= (block as usize) {
-        return answer::refused(START_BLOCK, 0, 0);
+        return answer::refused(START_BLOCK, 0);
     }
     answer::passed()
 }
@@ -115,7 +115,7 @@ fn registers_met(
 {
     let r = meaning::first_unmet(types, tags, owners, blocks, block, &registers, REGISTERS);
     if r < REGISTERS {
-        return answer::refused(REGISTER, r, 0);
+        return answer::refused(REGISTER, r);
     }
     answer::passed()
 }

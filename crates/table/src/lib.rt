@@ -4,7 +4,7 @@ ghost use mathlib.Core.List.{List};
 ghost use Prim.Native.Nat.{ℕ, _+_, _*_, _≤_, _<_};
 ghost use lib.ListN.{length, getD};
 ghost use lib.Dec.{ltb, leb, eqb};
-ghost use Rattle.model.specs.Question.{_and_, pick, every, firstNo, passed, verdictOf};
+ghost use Rattle.model.specs.Question.{_and_, pick, every, firstNo, verdictOf};
 ghost use Rattle.model.specs.Word.{kindOf};
 ghost use Rattle.model.specs.Table.{rowOf, rows, headOf, wordsOf, tablesOf, routineOf, startOf};
 ghost use Rattle.model.specs.Table.{wholeRows, typeLengthsAsk, codeLengthsAsk, countAsk};
@@ -12,6 +12,8 @@ ghost use Rattle.model.specs.Table.{usesRecord, dependency, wellMade, fieldsAsk
 ghost use Rattle.model.specs.Table.{lengthsAsk, annotationsAsk};
 ghost use Rattle.table.specs.Row.{placeWell};
 use model::Verdict;
+
+pub mod answer;
 
 // Words of a row of the type or block table: a number and eight type words.
 const ROW_WORDS: usize = 9;
@@ -47,30 +49,6 @@ const TAG: u32 = 4;
 const BLOCK_LENGTH: u32 = 5;
 
 const ANNOTATION: u32 = 6;
-
-// ---- verdicts
-
-fn passed() -> Verdict
-    ensures { λ r. ⌜ r ≡ passed ⌝ }
-{
-    Verdict {
-        number: 0,
-        first: 0,
-        second: 0,
-    }
-}
-
-// A refusal at a row, or at a table.
-fn refused(number: u32, row: usize) -> Verdict
-    requires { ⌜ row ≤ 256 ⌝ }
-    ensures { λ r. ⌜ r ≡ record { number = number; first = row; second = 0 } ⌝ }
-{
-    Verdict {
-        number: number,
-        first: row as u32,
-        second: 0,
-    }
-}
 
 // ---- rows
 
@@ -123,12 +101,12 @@ pub fn type_lengths(types: usize, tags: usize) -> Verdict
     ensures { λ r. ⌜ r ≡ verdictOf (typeLengthsAsk types tags) ⌝ }
 {
     if !whole_rows(MOST_TYPES, types) {
-        return refused(LENGTHS, 0);
+        return answer::refused(LENGTHS, 0);
     }
     if MOST_TAGS < tags {
-        return refused(LENGTHS, 1);
+        return answer::refused(LENGTHS, 1);
     }
-    passed()
+    answer::passed()
 }
 
 // Q1 for the block table, 2, and the code table, 3.
@@ -136,15 +114,15 @@ pub fn code_lengths(blocks: usize, code: usize) -> Verdict
     ensures { λ r. ⌜ r ≡ verdictOf (codeLengthsAsk blocks code) ⌝ }
 {
     if !whole_rows(MOST_BLOCKS, blocks) {
-        return refused(LENGTHS, 2);
+        return answer::refused(LENGTHS, 2);
     }
     if code < 1 {
-        return refused(LENGTHS, 3);
+        return answer::refused(LENGTHS, 3);
     }
     if MOST_CODE < code {
-        return refused(LENGTHS, 3);
+        return answer::refused(LENGTHS, 3);
     }
-    passed()
+    answer::passed()
 }
 
 // ---- type words
@@ -258,14 +236,14 @@ fn field_counts(types: &[u32]) -> Verdict
     while t < count {
         let n = head(types, t);
         if n < 1 {
-            return refused(FIELD_COUNT, t);
+            return answer::refused(FIELD_COUNT, t);
         }
         if MOST_FIELDS < n {
-            return refused(FIELD_COUNT, t);
+            return answer::refused(FIELD_COUNT, t);
         }
         t += 1;
     }
-    passed()
+    answer::passed()
 }
 
 // Q3.
@@ -277,11 +255,11 @@ fn field_words(types: &[u32]) -> Verdict
     let mut t = 0;
     while t < count {
         if !words_well(types, t, count as u32, head(types, t)) {
-            return refused(TYPE_WORD, t);
+            return answer::refused(TYPE_WORD, t);
         }
         t += 1;
     }
-    passed()
+    answer::passed()
 }
 
 // Q4.
@@ -293,11 +271,11 @@ fn tag_types(types: &[u32], tags: &[u32]) -> Verdict
     let mut k = 0;
     while k < tags.len() {
         if count <= tags[k] {
-            return refused(TAG, k);
+            return answer::refused(TAG, k);
         }
         k += 1;
     }
-    passed()
+    answer::passed()
 }
 
 // Q2 to Q4, each over all rows before the next.
@@ -347,16 +325,16 @@ pub fn lengths(blocks: &[u32], code: &[u32], starts: &mut [u32; 257]) -> Verdict
     while b < count {
         let n = head(blocks, b);
         if !length_well(n, i, total) {
-            return refused(BLOCK_LENGTH, b);
+            return answer::refused(BLOCK_LENGTH, b);
         }
         i += n;
         b += 1;
         starts[b] = i;
     }
     if i != total {
-        return refused(BLOCK_LENGTH, count);
+        return answer::refused(BLOCK_LENGTH, count);
     }
-    passed()
+    answer::passed()
 }
 
 // Q6, over count record types.
@@ -369,9 +347,9 @@ pub fn annotations(count: u32, blocks: &[u32]) -> Verdict
     let mut b = 0;
     while b < total {
         if !words_well(blocks, b, count, REGISTERS) {
-            return refused(ANNOTATION, b);
+            return answer::refused(ANNOTATION, b);
         }
         b += 1;
     }
-    passed()
+    answer::passed()
 }

@@ -10,20 +10,9 @@ ghost use Rattle.model.specs.Check.{blockAsk, judge, check};
 use model::Verdict;
 use straight::NO_BASE;
 use straight::Progress;
+use table::answer;
 
 // ---- blocks
-
-// A refusal at a code index of block b.
-fn refusal(number: u32, b: usize, index: usize) -> Verdict
-    requires { ⌜ (b < 256) × (index < 8192) ⌝ }
-    ensures { λ r. ⌜ r ≡ record { number = number; first = b; second = index } ⌝ }
-{
-    Verdict {
-        number: number,
-        first: b as u32,
-        second: index as u32,
-    }
-}
 
 // Q7 to Q15 of block b, whose part of the code starts at first.
 fn block(
@@ -75,7 +64,7 @@ fn block(
         );
         let no = s.number;
         if no != 0 {
-            return refusal(no, b, first + j);
+            return answer::refused_at(no, b, first + j);
         }
         j += 1;
     }
@@ -91,13 +80,9 @@ fn block(
         b,
     );
     if no != 0 {
-        return refusal(no, b, first + j);
+        return answer::refused_at(no, b, first + j);
     }
-    Verdict {
-        number: 0,
-        first: 0,
-        second: 0,
-    }
+    answer::passed()
 }
 
 // Q7 to Q15 of all blocks, in order. The code of block b starts at starts[b].
@@ -116,11 +101,7 @@ fn judge(types: &[u32], tags: &[u32], blocks: &[u32], code: &[u32], starts: &[u3
         }
         b += 1;
     }
-    Verdict {
-        number: 0,
-        first: 0,
-        second: 0,
-    }
+    answer::passed()
 }
 
 // ---- the check

@@ -99,8 +99,8 @@ first-unmet-requires c κs =
       layout-well _ _ _ _ (s .pre .0) _ _ (r .0) (h .head .ensures),
     )
 
-refused-requires : tie.Need-refused-requires Inv-loop μ-loop
-refused-requires c κs =
+refused-at-requires : tie.Need-refused-at-requires Inv-loop μ-loop
+refused-at-requires c κs =
     let h = c .before .before .before in
     let l = h .before .before .before .before .loop in
     let s = h .before .before .before .before .before .before .before .before .before in
@@ -112,7 +112,7 @@ returns c =
     let h = m .before .before in
     let l = h .before .before .before .before .loop in
     let s = h .before .before .before .before .before .before .before .before .before in
-    c .refused .ensures ∙ records-stop _ _ (now (s .args .allocations)) (now (s .args .memory)) (l .k) _ (l .inv .0) (omega arith) _ _ _ _ refl refl
+    c .refused-at .ensures ∙ records-stop _ _ (now (s .args .allocations)) (now (s .args .memory)) (l .k) _ (l .inv .0) (omega arith) _ _ _ _ refl refl
     (h .head .ensures) (m .first-unmet .ensures _ (s .pre .1)) (omega arith)
 
 add-k : tie.Need-add-k Inv-loop μ-loop
@@ -164,7 +164,7 @@ records-spec =
     part-first-unmet-start
     part-first-unmet-end
     first-unmet-requires
-    refused-requires
+    refused-at-requires
     returns
     add-k
     loop-less

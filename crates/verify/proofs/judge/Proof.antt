@@ -1,5 +1,5 @@
 -- `verify::judge` meets its contract. The invariant: the blocks from b on come to what all come to.
-use mathlib.Core.Path.{_≡_}
+use mathlib.Core.Path.{_≡_, _∙_}
 use Prim.Native.Nat.{_-_, _≤_}
 use native.Mathlib.Omega.{arith}
 use Rattle.table.proofs.Questions.{first-end}
@@ -7,6 +7,7 @@ use Rattle.model.specs.Question.{firstNo}
 use Rattle.model.specs.Table.{tablesOf, routineOf, rows}
 use Rattle.model.specs.Check.{blockAsk, judge}
 use Rattle.verify.proofs.Blocks.{judge-begins, judge-on, judge-stops}
+use borrow.Author.Needs.{needs}
 use Rattle.verify.proofs.judge.Statement.{statement}
 use Rattle.verify.proofs.judge.Tie as tie
 
@@ -66,8 +67,11 @@ loop-again c = (
   omega arith,
 )
 
+passed-requires : tie.Need-passed-requires Inv-loop μ-loop
+passed-requires c κs = search needs
+
 returns-2 : tie.Need-returns-2 Inv-loop μ-loop
-returns-2 c = first-end _ _ (c .before .loop .b) _ (c .before .loop .inv .0) (omega arith)
+returns-2 c = c .passed .ensures ∙ first-end _ _ (c .before .before .loop .b) _ (c .before .before .loop .inv .0) (omega arith)
 
 pub judge-spec : {M : Type 1} → statement M
 judge-spec =
@@ -84,4 +88,5 @@ judge-spec =
     add-b
     loop-less
     loop-again
+    passed-requires
     returns-2)

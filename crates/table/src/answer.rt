@@ -1,0 +1,35 @@
+// The two kinds of verdict.
+ghost use mathlib.Core.Path.{_≡_};
+ghost use Prim.Native.Nat.{_<_};
+ghost use Rattle.model.specs.Question.{passed};
+use model::Verdict;
+
+pub fn passed() -> Verdict
+    ensures { λ r. ⌜ r ≡ passed ⌝ }
+{
+    Verdict {
+        number: 0,
+        first: 0,
+        second: 0,
+    }
+}
+
+// A no at a place of two parts: an allocation row and its field, a block and its instruction.
+pub fn refused_at(number: u32, first: usize, second: usize) -> Verdict
+    requires { ⌜ (first < 4294967296) × (second < 4294967296) ⌝ }
+    ensures { λ r. ⌜ r ≡ record { number = number; first = first; second = second } ⌝ }
+{
+    Verdict {
+        number: number,
+        first: first as u32,
+        second: second as u32,
+    }
+}
+
+// A no at a place of one part: a table, a row, a register.
+pub fn refused(number: u32, first: usize) -> Verdict
+    requires { ⌜ first < 4294967296 ⌝ }
+    ensures { λ r. ⌜ r ≡ record { number = number; first = first; second = 0 } ⌝ }
+{
+    refused_at(number, first, 0)
+}
