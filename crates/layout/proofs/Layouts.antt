@@ -7,6 +7,7 @@ use native.Mathlib.Numerals.{add-one}
 use native.Mathlib.Omega.{arith}
 use lib.ListN.{length, getD, drop, drop-of-length-le}
 use lib.Seq.{drop-cons}
+use lib.Dec.{leb}
 use borrow.Author.Tests.{lt-ltb, le-ltb, le-leb, lt-leb, eq-eqb, ne-eqb, ltb-true}
 use Rattle.model.specs.declared.Verdict.{Verdict}
 use Rattle.model.specs.Question.{_and_, q17, q19, refusal, Outcome, ask, passed, refusing, verdictOf}
@@ -52,13 +53,9 @@ module _ (types tags : List ℕ) (top low p t : ℕ) where
   unfolding laid tablesOf _and_
   laid-low h l = rw (lt-ltb t (rows types) h, lt-leb low p l)
 
-  pub laid-past : t < rows types → low ≤ p → (n : ℕ) → n ≡ headOf types t → top < p + n → false ≡ laid (tablesOf types tags) top low p t
+  pub laid-end : t < rows types → low ≤ p → (n : ℕ) → n ≡ headOf types t → leb (p + n) top ≡ laid (tablesOf types tags) top low p t
   unfolding laid tablesOf _and_
-  laid-past h l n e o = rw (lt-ltb t (rows types) h, le-leb low p l, ← e, lt-leb (p + n) top o)
-
-  pub laid-inside : t < rows types → low ≤ p → (n : ℕ) → n ≡ headOf types t → p + n ≤ top → true ≡ laid (tablesOf types tags) top low p t
-  unfolding laid tablesOf _and_
-  laid-inside h l n e o = rw (lt-ltb t (rows types) h, le-leb low p l, ← e, le-leb (p + n) top o)
+  laid-end h l n e = rw (lt-ltb t (rows types) h, le-leb low p l, ← e)
 
   -- the type of a row that is laid
   pub laid-exists : laid (tablesOf types tags) top low p t ≡ true → t < rows types

@@ -1,7 +1,7 @@
 // The layout of memory: its length (Q17) and the allocations (Q19), asked after Q1 to Q4.
 ghost use mathlib.Core.Path.{_≡_};
 ghost use mathlib.Core.List.{List};
-ghost use Prim.Native.Nat.{ℕ, _-_, _%_, _≤_};
+ghost use Prim.Native.Nat.{ℕ, _%_, _≤_};
 ghost use lib.ListN.{length};
 ghost use Rattle.model.specs.Question.{verdictOf};
 ghost use Rattle.model.specs.Table.{tablesOf};
@@ -44,16 +44,6 @@ pub fn memory_length(n: usize) -> Verdict
     answer::passed()
 }
 
-// How many of the addresses below end are at or above top.
-fn past(end: usize, top: usize) -> usize
-    ensures { λ r. ⌜ r ≡ end - top ⌝ }
-{
-    if end <= top {
-        return 0;
-    }
-    end - top
-}
-
 // Whether the record of type t at p is at or above low, and with all its words below top.
 fn is_laid(types: &[u32], top: usize, low: usize, p: u32, t: u32) -> bool
     ensures { λ r. ⌜ ((tags : List ℕ) → r ≡ laid (tablesOf (now (types .entry)) tags) top low p t) ⌝ }
@@ -66,10 +56,7 @@ fn is_laid(types: &[u32], top: usize, low: usize, p: u32, t: u32) -> bool
         return false;
     }
     let end = start + (table::head(types, t as usize) as usize);
-    if 0 < past(end, top) {
-        return false;
-    }
-    true
+    end <= top
 }
 
 // Q19 of whole rows. The contract holds for any tags: they have no part in Q19.

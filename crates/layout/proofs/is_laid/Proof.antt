@@ -1,6 +1,6 @@
 -- `layout::is_laid` meets its contract, by the test that led to each return.
 use native.Mathlib.Omega.{arith}
-use Rattle.layout.proofs.Layouts.{laid-type, laid-low, laid-past, laid-inside}
+use Rattle.layout.proofs.Layouts.{laid-type, laid-low, laid-end}
 use borrow.Author.Needs.{needs}
 use Rattle.layout.proofs.is_laid.Statement.{statement}
 use Rattle.layout.proofs.is_laid.Tie as tie
@@ -20,15 +20,9 @@ cast-end c = search needs
 add-end : tie.Need-add-end
 add-end c = search needs
 
-past-requires : tie.Need-past-requires
-past-requires c κs = search needs
-
 returns-3 : tie.Need-returns-3
-returns-3 c = λ tags. laid-past _ tags _ _ _ _ (omega arith) (omega arith) _ (c .before .before .head .ensures) (omega (arith, c .before .past .ensures))
-
-returns-4 : tie.Need-returns-4
-returns-4 c = λ tags. laid-inside _ tags _ _ _ _ (omega arith) (omega arith) _ (c .before .before .head .ensures) (omega (arith, c .before .past .ensures))
+returns-3 c = λ tags. laid-end _ tags _ _ _ _ (omega arith) (omega arith) _ (c .head .ensures)
 
 pub is-laid-spec : {M : Type 1} → statement M
 is-laid-spec =
-    tie.close (tie.spec returns returns-2 head-requires cast-end add-end past-requires returns-3 returns-4)
+    tie.close (tie.spec returns returns-2 head-requires cast-end add-end returns-3)
