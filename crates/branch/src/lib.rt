@@ -108,7 +108,7 @@ fn edge(
         constants,
         tested,
         equal,
-        8,
+        table::TYPE_WORDS,
         &own[1..],
         registers,
     )
@@ -297,7 +297,7 @@ pub fn last(
         (reading (now (registers .entry)) (now (words .entry)) (now (frames .entry)) (now (constants .entry)) views fields since base))
         × (r ≤ 15) ⌝ }
 {
-    let count = (blocks.len() / 9) as u32;
+    let count = (blocks.len() / table::ROW_WORDS) as u32;
     let no = instruction::form(word, true, b as u32, count);
     if no != 0 {
         return no;

@@ -12,13 +12,10 @@ use model::Verdict;
 use table::answer;
 
 // Words of an allocation row: start and record type.
-const ROW_WORDS: usize = 2;
-
-// Words of a row of the type table.
-const TABLE_ROW_WORDS: usize = 9;
+pub const ALLOCATION_WORDS: usize = 2;
 
 // Memory has from one word to this many.
-const MOST_MEMORY: usize = 16384;
+pub const MOST_MEMORY: usize = 16384;
 
 // The most words that the allocation rows may have.
 const MOST_ALLOCATIONS: usize = 8192;
@@ -48,7 +45,7 @@ pub fn memory_length(n: usize) -> Verdict
 fn is_laid(types: &[u32], top: usize, low: usize, p: u32, t: u32) -> bool
     ensures { λ r. ⌜ ((tags : List ℕ) → r ≡ laid (tablesOf (now (types .entry)) tags) top low p t) ⌝ }
 {
-    if types.len() / TABLE_ROW_WORDS <= (t as usize) {
+    if types.len() / table::ROW_WORDS <= (t as usize) {
         return false;
     }
     let start = p as usize;
@@ -64,12 +61,12 @@ fn rows(types: &[u32], allocations: &[u32], top: usize) -> Verdict
     requires { ⌜ (length (now allocations) % 2 ≡ 0) × (length (now allocations) ≤ 8192) ⌝ }
     ensures { λ r. ⌜ ((tags : List ℕ) → r ≡ verdictOf (rowsAsk (tablesOf (now (types .entry)) tags) top (now (allocations .entry)) 0 1)) ⌝ }
 {
-    let count = allocations.len() / ROW_WORDS;
+    let count = allocations.len() / ALLOCATION_WORDS;
     let mut low = FIRST_START;
     let mut k = 0;
     while k < count {
-        let p = allocations[k * ROW_WORDS];
-        let t = allocations[k * ROW_WORDS + 1];
+        let p = allocations[k * ALLOCATION_WORDS];
+        let t = allocations[k * ALLOCATION_WORDS + 1];
         if !is_laid(types, top, low, p, t) {
             return answer::refused(ALLOCATION, k);
         }
@@ -83,7 +80,7 @@ fn rows(types: &[u32], allocations: &[u32], top: usize) -> Verdict
 fn allocations(types: &[u32], allocations: &[u32], top: usize) -> Verdict
     ensures { λ r. ⌜ ((tags : List ℕ) → r ≡ verdictOf (allocationsAsk (tablesOf (now (types .entry)) tags) top (now (allocations .entry)))) ⌝ }
 {
-    if allocations.len() % ROW_WORDS != 0 {
+    if allocations.len() % ALLOCATION_WORDS != 0 {
         return answer::refused(ALLOCATION, 0);
     }
     if MOST_ALLOCATIONS < allocations.len() {

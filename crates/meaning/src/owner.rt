@@ -4,23 +4,18 @@ ghost use Prim.Native.Nat.{_%_, _≤_, _<_};
 ghost use Rattle.model.specs.Table.{headOf};
 ghost use Rattle.meaning.specs.Owners.{ownerAt, startsAt, entryOf, ownersOf, Placed};
 
-// Words of an allocation row: start and record type.
-const ROW_WORDS: usize = 2;
-
-// Memory has no more words, and the table as many entries.
-const ADDRESSES: u32 = 16384;
-
 // An entry is 0 where no record starts. Else it has the record type + 1 above this place, and the end of the run below.
 const PLACE: u32 = 65536;
 
-// The entry of address x.
+// The entry of address x. The table has as many entries as memory may have words.
 fn owner(owners: &[u32; 16384], x: u32) -> u32
     ensures { λ r. ⌜ r ≡ ownerAt (now (owners .entry)) x ⌝ }
 {
-    if ADDRESSES <= x {
+    let at = x as usize;
+    if layout::MOST_MEMORY <= at {
         return 0;
     }
-    owners[x as usize]
+    owners[at]
 }
 
 // Whether a record of type t starts at x. The sum is taken in 64 bits, where no t makes it wrap.
@@ -53,11 +48,11 @@ pub fn fill(types: &[u32], allocations: &[u32], owners: &mut [u32; 16384])
     requires { ⌜ Placed (now types) (now allocations) ⌝ }
     ensures { λ r. ⌜ now (owners .exit) ≡ ownersOf (λ t. headOf (now (types .entry)) t) (now (allocations .entry)) (now (owners .entry)) ⌝ }
 {
-    let mut k = allocations.len() / ROW_WORDS;
+    let mut k = allocations.len() / layout::ALLOCATION_WORDS;
     while 0 < k {
         k -= 1;
-        let p = allocations[k * ROW_WORDS];
-        let t = allocations[k * ROW_WORDS + 1];
+        let p = allocations[k * layout::ALLOCATION_WORDS];
+        let t = allocations[k * layout::ALLOCATION_WORDS + 1];
         let n = table::head(types, t as usize);
         let own = entry(owners, p + n, t);
         owners[p as usize] = own;

@@ -14,17 +14,7 @@ use meaning::owner;
 use model::Verdict;
 use table::answer;
 
-// Words of an allocation row: start and record type.
-const ROW_WORDS: usize = 2;
-
-// Words of a row of the type or block table.
-const TABLE_ROW_WORDS: usize = 9;
-
-const REGISTERS: usize = 8;
-
 // The numbers of the questions.
-const START_BLOCK: u32 = 16;
-
 const FIELD: u32 = 20;
 
 const REGISTER: u32 = 21;
@@ -44,11 +34,11 @@ fn records(
     ensures { λ r. ⌜ r ≡ verdictOf (recordsAsk (tablesOf (now (types .entry)) (now (tags .entry)))
         (now (allocations .entry)) (now (memory .entry)) (now (allocations .entry)) 0) ⌝ }
 {
-    let count = allocations.len() / ROW_WORDS;
+    let count = allocations.len() / layout::ALLOCATION_WORDS;
     let mut k = 0;
     while k < count {
-        let start = allocations[k * ROW_WORDS] as usize;
-        let t = allocations[k * ROW_WORDS + 1] as usize;
+        let start = allocations[k * layout::ALLOCATION_WORDS] as usize;
+        let t = allocations[k * layout::ALLOCATION_WORDS + 1] as usize;
         let n = table::head(types, t) as usize;
         let f = meaning::first_unmet(types, tags, owners, types, t, &memory[start..], n);
         if f < n {
@@ -88,12 +78,12 @@ fn routine(types: &[u32], blocks: &[u32], code: &[u32], block: u32) -> Verdict
     if covered.number != 0 {
         return covered;
     }
-    let made = table::annotations((types.len() / TABLE_ROW_WORDS) as u32, blocks);
+    let made = table::annotations((types.len() / table::ROW_WORDS) as u32, blocks);
     if made.number != 0 {
         return made;
     }
-    if blocks.len() / TABLE_ROW_WORDS <= (block as usize) {
-        return answer::refused(START_BLOCK, 0);
+    if blocks.len() / table::ROW_WORDS <= (block as usize) {
+        return answer::refused(table::START_BLOCK, 0);
     }
     answer::passed()
 }
@@ -113,8 +103,16 @@ fn registers_met(
         → r ≡ verdictOf (firstNo 8 0 (registerAsk (tablesOf (now (types .entry)) (now (tags .entry)))
         allocations (wordsOf (now (blocks .entry)) block) registers))) ⌝ }
 {
-    let r = meaning::first_unmet(types, tags, owners, blocks, block, &registers, REGISTERS);
-    if r < REGISTERS {
+    let r = meaning::first_unmet(
+        types,
+        tags,
+        owners,
+        blocks,
+        block,
+        &registers,
+        table::TYPE_WORDS,
+    );
+    if r < table::TYPE_WORDS {
         return answer::refused(REGISTER, r);
     }
     answer::passed()

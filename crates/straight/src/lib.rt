@@ -81,7 +81,7 @@ fn size(types: &[u32], t: u32) -> u32
     requires { ⌜ length (now types) % 9 ≡ 0 ⌝ }
     ensures { λ r. ⌜ (r ≡ headOf (now (types .entry)) t) × (0 < r → t * 9 + 9 ≤ length (now (types .entry))) ⌝ }
 {
-    let at = (t as usize) * 9;
+    let at = (t as usize) * table::ROW_WORDS;
     if types.len() <= at {
         return 0;
     }

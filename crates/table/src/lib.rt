@@ -15,10 +15,10 @@ use model::Verdict;
 
 pub mod answer;
 
-// Words of a row of the type or block table: a number and eight type words.
-const ROW_WORDS: usize = 9;
+// Words of a row of the type or block table: a number and eight type words, one for each field or register.
+pub const ROW_WORDS: usize = 9;
 
-const TYPE_WORDS: usize = 8;
+pub const TYPE_WORDS: usize = 8;
 
 // The most rows or words that a table may have.
 const MOST_TYPES: usize = 64;
@@ -35,9 +35,9 @@ const MOST_FIELDS: u32 = 8;
 const LONGEST_BLOCK: u32 = 32;
 
 // The names in an annotation are the registers.
-const REGISTERS: u32 = 8;
+pub const REGISTERS: u32 = 8;
 
-// The numbers of the questions Q1 to Q6.
+// The numbers of the questions Q1 to Q6, and of Q16, which the entry check and a run ask of the block table.
 const LENGTHS: u32 = 1;
 
 const FIELD_COUNT: u32 = 2;
@@ -49,6 +49,8 @@ const TAG: u32 = 4;
 const BLOCK_LENGTH: u32 = 5;
 
 const ANNOTATION: u32 = 6;
+
+pub const START_BLOCK: u32 = 16;
 
 // ---- rows
 

@@ -44,7 +44,7 @@ fn block(
     let n = table::head(blocks, b) as usize;
     let end = first + n;
     let part = &code[first..end];
-    let count = (blocks.len() / 9) as u32;
+    let count = (blocks.len() / table::ROW_WORDS) as u32;
     let mut j = 0;
     while j + 1 < n {
         s = straight::early(
@@ -92,7 +92,7 @@ fn judge(types: &[u32], tags: &[u32], blocks: &[u32], code: &[u32], starts: &[u3
         × ((b : ℕ) → b ≤ rows (now blocks) → getD (now starts) b 0 ≡ startOf (now blocks) b) ⌝ }
     ensures { λ r. ⌜ r ≡ verdictOf (judge (tablesOf (now (types .entry)) (now (tags .entry))) (routineOf (now (blocks .entry)) (now (code .entry)))) ⌝ }
 {
-    let count = blocks.len() / 9;
+    let count = blocks.len() / table::ROW_WORDS;
     let mut b = 0;
     while b < count {
         let v = block(types, tags, blocks, code, b, starts[b] as usize);
@@ -127,7 +127,7 @@ pub fn check(types: &[u32], tags: &[u32], blocks: &[u32], code: &[u32]) -> Verdi
     if lengths.number != 0 {
         return lengths;
     }
-    let annotations = table::annotations((types.len() / 9) as u32, blocks);
+    let annotations = table::annotations((types.len() / table::ROW_WORDS) as u32, blocks);
     if annotations.number != 0 {
         return annotations;
     }
