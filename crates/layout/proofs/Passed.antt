@@ -64,14 +64,12 @@ module _ (types tags allocations : List ℕ) (top : ℕ) (q : layoutAsk types ta
   layout-sizes t h = size-bounds types tags _ refl (ok-verdict _ (layout-parts .1)) t h
 
   -- each row: its type, size and place
-  pub layout-row : (k : ℕ) → k * 2 + 1 < length allocations
-      → (getD allocations (k * 2 + 1) 0 < rows types)
-      × (headOf types (getD allocations (k * 2 + 1) 0) ≤ 8)
-      × (getD allocations (k * 2) 0 + headOf types (getD allocations (k * 2 + 1) 0) ≤ top)
+  pub layout-row : (k : ℕ) → k * 2 + 1 < length allocations → (p t : ℕ) → p ≡ getD allocations (k * 2) 0 → t ≡ getD allocations (k * 2 + 1) 0
+      → (t < rows types) × (headOf types t ≤ 8) × (p + headOf types t ≤ top)
   unfolding tablesOf
-  layout-row k h =
+  layout-row k h p t ep et =
       let R = rows-laid (tablesOf types tags) top allocations 0 1 _ _ layout-laid (row-allocated k allocations h) in
-      (R .exists, layout-sizes _ (R .exists) .1, R .inside)
+      rw (ep, et) (R .exists, layout-sizes _ (R .exists) .1, R .inside)
 
   pub layout-well : (t n : ℕ) → t < rows types → n ≡ headOf types t → (i : ℕ) → i < n → wellMade (rows types) n (getD (wordsOf types t) i 0) ≡ true
   layout-well t n h e i l =

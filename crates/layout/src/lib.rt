@@ -1,8 +1,8 @@
 // The layout of memory: its length (Q17) and the allocations (Q19), asked after Q1 to Q4.
 ghost use mathlib.Core.Path.{_≡_};
 ghost use mathlib.Core.List.{List};
-ghost use Prim.Native.Nat.{ℕ, _%_, _≤_};
-ghost use lib.ListN.{length};
+ghost use Prim.Native.Nat.{ℕ, _+_, _*_, _%_, _≤_, _<_};
+ghost use lib.ListN.{length, getD};
 ghost use Rattle.model.specs.Question.{verdictOf};
 ghost use Rattle.model.specs.Table.{tablesOf};
 ghost use Rattle.model.specs.Allocation.{laid, rowsAsk, allocationsAsk};
@@ -41,6 +41,22 @@ pub fn memory_length(n: usize) -> Verdict
     answer::passed()
 }
 
+// Where the record of allocation row k starts.
+pub fn start(allocations: &[u32], k: usize) -> u32
+    requires { ⌜ k * 2 + 1 < length (now allocations) ⌝ }
+    ensures { λ r. ⌜ r ≡ getD (now (allocations .entry)) (k * 2) 0 ⌝ }
+{
+    allocations[k * ALLOCATION_WORDS]
+}
+
+// Its type.
+pub fn record_type(allocations: &[u32], k: usize) -> u32
+    requires { ⌜ k * 2 + 1 < length (now allocations) ⌝ }
+    ensures { λ r. ⌜ r ≡ getD (now (allocations .entry)) (k * 2 + 1) 0 ⌝ }
+{
+    allocations[k * ALLOCATION_WORDS + 1]
+}
+
 // Whether the record of type t at p is at or above low, and with all its words below top.
 fn is_laid(types: &[u32], top: usize, low: usize, p: u32, t: u32) -> bool
     ensures { λ r. ⌜ ((tags : List ℕ) → r ≡ laid (tablesOf (now (types .entry)) tags) top low p t) ⌝ }
@@ -65,8 +81,8 @@ fn rows(types: &[u32], allocations: &[u32], top: usize) -> Verdict
     let mut low = FIRST_START;
     let mut k = 0;
     while k < count {
-        let p = allocations[k * ALLOCATION_WORDS];
-        let t = allocations[k * ALLOCATION_WORDS + 1];
+        let p = start(allocations, k);
+        let t = record_type(allocations, k);
         if !is_laid(types, top, low, p, t) {
             return answer::refused(ALLOCATION, k);
         }

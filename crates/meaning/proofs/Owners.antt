@@ -9,12 +9,12 @@ use lib.ListN.{length, getD, set, length-set, drop, drop-of-length-le}
 use lib.Seq.{getD-set-same, getD-set-other}
 use borrow.Author.Tests.{lt-ltb, le-ltb, eq-eqb, ne-eqb, eqb-true}
 use Rattle.model.specs.Question.{_and_, _or_, pick, ok}
-use Rattle.model.specs.Table.{Tables}
+use Rattle.model.specs.Table.{Tables, rows, headOf}
 use Rattle.model.specs.Allocation.{isAllocated, rowsAsk}
 use Rattle.model.proofs.Logic.{byTest, byEqual, true-and, true-or, pick-true, pick-false, ask-ok}
 use Rattle.model.proofs.TableLaws.{Row, rows-laid}
 use Rattle.layout.proofs.Layouts.{rows-from}
-use Rattle.meaning.specs.Owners.{ownerAt, startsAt, entryOf, ownersOf, Owned}
+use Rattle.meaning.specs.Owners.{ownerAt, startsAt, entryOf, ownersOf, RowPlaced, Owned}
 
 -- ---- the parts of an entry
 
@@ -219,3 +219,9 @@ module _ (size : ℕ → ℕ) (l blank : List ℕ) where
 
   pub fill-all : (k : ℕ) (owners : List ℕ) → k ≡ 0 → owners ≡ ownersOf size (drop (k * 2) l) blank → owners ≡ ownersOf size l blank
   fill-all k owners z e = rw z at e
+
+-- a row that can be laid, by its start and type
+pub row-placed : (types allocations : List ℕ) (k : ℕ) → RowPlaced types allocations k → (p t : ℕ)
+    → p ≡ getD allocations (k * 2) 0 → t ≡ getD allocations (k * 2 + 1) 0
+    → (t < rows types) × (1 ≤ headOf types t) × (p + headOf types t ≤ 16384)
+row-placed types allocations k q p t ep et = rw (ep, et) q

@@ -51,8 +51,8 @@ pub fn fill(types: &[u32], allocations: &[u32], owners: &mut [u32; 16384])
     let mut k = allocations.len() / layout::ALLOCATION_WORDS;
     while 0 < k {
         k -= 1;
-        let p = allocations[k * layout::ALLOCATION_WORDS];
-        let t = allocations[k * layout::ALLOCATION_WORDS + 1];
+        let p = layout::start(allocations, k);
+        let t = layout::record_type(allocations, k);
         let n = table::head(types, t as usize);
         let own = entry(owners, p + n, t);
         owners[p as usize] = own;

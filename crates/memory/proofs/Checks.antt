@@ -41,7 +41,7 @@ module _ (types tags allocations : List ℕ) (top : ℕ) (q : layoutAsk types ta
   layout-placed = (
     omega (arith, layout-types types tags allocations top q),
     layout-even types tags allocations top q,
-    λ k h. let (a, b, c) = layout-row types tags allocations top q k h in (a, layout-sized _ a, omega (arith, c, layout-memory types tags allocations top q)),
+    λ k h. let (a, b, c) = layout-row types tags allocations top q k h _ _ refl refl in (a, layout-sized _ a, omega (arith, c, layout-memory types tags allocations top q)),
   )
 
   -- the table filled from zeros

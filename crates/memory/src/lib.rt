@@ -37,8 +37,8 @@ fn records(
     let count = allocations.len() / layout::ALLOCATION_WORDS;
     let mut k = 0;
     while k < count {
-        let start = allocations[k * layout::ALLOCATION_WORDS] as usize;
-        let t = allocations[k * layout::ALLOCATION_WORDS + 1] as usize;
+        let start = layout::start(allocations, k) as usize;
+        let t = layout::record_type(allocations, k) as usize;
         let n = table::head(types, t) as usize;
         let f = meaning::first_unmet(types, tags, owners, types, t, &memory[start..], n);
         if f < n {

@@ -23,26 +23,11 @@ abbrev μ-loop : tie.MeasureT-loop
 loop-holds : tie.Need-loop-holds Inv-loop μ-loop
 loop-holds c = (λ tags. refl, omega arith)
 
-mul-p : tie.Need-mul-p Inv-loop μ-loop
-mul-p c = omega arith
+start-requires : tie.Need-start-requires Inv-loop μ-loop
+start-requires c κs = omega arith
 
-mul-p-2 : tie.Need-mul-p-2 Inv-loop μ-loop
-mul-p-2 c = omega arith
-
-shared-slice-read-p : tie.Need-shared-slice-read-p Inv-loop μ-loop
-shared-slice-read-p c = omega arith
-
-mul-t : tie.Need-mul-t Inv-loop μ-loop
-mul-t c = omega arith
-
-add-t : tie.Need-add-t Inv-loop μ-loop
-add-t c = omega arith
-
-mul-t-2 : tie.Need-mul-t-2 Inv-loop μ-loop
-mul-t-2 c = omega arith
-
-shared-slice-read-t : tie.Need-shared-slice-read-t Inv-loop μ-loop
-shared-slice-read-t c = omega arith
+record-type-requires : tie.Need-record-type-requires Inv-loop μ-loop
+record-type-requires c κs = omega arith
 
 is-laid-requires : tie.Need-is-laid-requires Inv-loop μ-loop
 is-laid-requires c κs = tt
@@ -56,20 +41,14 @@ returns c = λ tags.
     let l = b .before .before .before .before .loop in
     let s = b .before .before .before .before .before .before .before in
     c .refused .ensures
-    ∙ rows-stop _ tags (now (s .args .allocations)) _ (l .k) _ _ (l .inv .0 tags) (omega arith) _ _ refl refl
+    ∙ rows-stop _ tags (now (s .args .allocations)) _ (l .k) _ _ (l .inv .0 tags) (omega arith) _ _ (b .before .before .start .ensures) (b .before .record-type .ensures)
     (told-no (b .is-laid .ensures tags) (c .before .if1 .taken))
 
 cast-low : tie.Need-cast-low Inv-loop μ-loop
-cast-low c =
-    let g = c .before .before .before in
-    let l = g .before .before .loop in
-    omega (arith, g .shared-slice-known3 .given (l .k * 2))
+cast-low c = omega arith
 
 cast-head : tie.Need-cast-head Inv-loop μ-loop
-cast-head c =
-    let g = c .before .before in
-    let l = g .before .before .before .loop in
-    omega (arith, g .shared-slice-known4 .given (l .k * 2 + 1))
+cast-head c = omega arith
 
 head-requires : tie.Need-head-requires Inv-loop μ-loop
 head-requires c κs = omega (arith, laid-exists _ [] _ _ _ _ (told-yes (c .before .is-laid .ensures []) (c .if1 .left)))
@@ -78,10 +57,7 @@ cast-low-2 : tie.Need-cast-low-2 Inv-loop μ-loop
 cast-low-2 c = omega arith
 
 add-low : tie.Need-add-low Inv-loop μ-loop
-add-low c =
-    let g = c .before .before .before .before in
-    let l = g .before .before .loop in
-    omega (arith, g .shared-slice-known3 .given (l .k * 2))
+add-low c = omega arith
 
 add-k : tie.Need-add-k Inv-loop μ-loop
 add-k c = omega arith
@@ -94,7 +70,7 @@ loop-again c =
     let b = c .before .before in
     let l = b .before .before .before .before .loop in
     let s = c .before .before .before .before .before .before .before .before .before in (
-      λ tags. rows-on _ tags (now (s .args .allocations)) _ (l .k) _ _ (l .inv .0 tags) (omega arith) _ _ refl refl
+      λ tags. rows-on _ tags (now (s .args .allocations)) _ (l .k) _ _ (l .inv .0 tags) (omega arith) _ _ (b .before .before .start .ensures) (b .before .record-type .ensures)
           (told-yes (b .is-laid .ensures tags) (c .before .if1 .left)) _ (c .head .ensures),
       omega arith,
     )
@@ -115,13 +91,8 @@ rows-spec =
     Inv-loop
     μ-loop
     loop-holds
-    mul-p
-    mul-p-2
-    shared-slice-read-p
-    mul-t
-    add-t
-    mul-t-2
-    shared-slice-read-t
+    start-requires
+    record-type-requires
     is-laid-requires
     refused-requires
     returns

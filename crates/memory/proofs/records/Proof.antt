@@ -1,10 +1,10 @@
 -- `memory::records` meets its contract. The invariant: the records from row k on come to what all come to.
 use mathlib.Core.Path.{_≡_, refl, _∙_}
-use Prim.Native.Nat.{_-_, _*_, _/_, _+_, _≤_}
+use Prim.Native.Nat.{_-_, _*_, _/_, _+_, _≤_, _<_}
 use native.Mathlib.Omega.{arith}
 use denote.Ref.{now}
 use lib.ListN.{length, drop}
-use Rattle.model.specs.Table.{tablesOf}
+use Rattle.model.specs.Table.{rows, headOf, tablesOf}
 use Rattle.model.specs.MemoryCheck.{recordsAsk}
 use Rattle.layout.proofs.Passed.{layout-rows, layout-even, layout-row, layout-well}
 use Rattle.memory.proofs.Checks.{layout-sized, tail-length, records-on, records-stop, records-end}
@@ -22,76 +22,50 @@ abbrev μ-loop : tie.MeasureT-loop
 loop-holds : tie.Need-loop-holds Inv-loop μ-loop
 loop-holds c = (refl, omega arith)
 
-mul-start : tie.Need-mul-start Inv-loop μ-loop
-mul-start c = omega arith
-
-mul-start-2 : tie.Need-mul-start-2 Inv-loop μ-loop
-mul-start-2 c = omega arith
-
-shared-slice-read-start : tie.Need-shared-slice-read-start Inv-loop μ-loop
-shared-slice-read-start c = omega arith
+start-requires : tie.Need-start-requires Inv-loop μ-loop
+start-requires c κs = omega arith
 
 cast-start : tie.Need-cast-start Inv-loop μ-loop
-cast-start c =
-    let l = c .before .before .loop in
-    omega (arith, c .shared-slice-known5 .given (l .k * 2))
+cast-start c = omega arith
 
-mul-t : tie.Need-mul-t Inv-loop μ-loop
-mul-t c = omega arith
-
-add-t : tie.Need-add-t Inv-loop μ-loop
-add-t c = omega arith
-
-mul-t-2 : tie.Need-mul-t-2 Inv-loop μ-loop
-mul-t-2 c = omega arith
-
-shared-slice-read-t : tie.Need-shared-slice-read-t Inv-loop μ-loop
-shared-slice-read-t c = omega arith
+record-type-requires : tie.Need-record-type-requires Inv-loop μ-loop
+record-type-requires c κs = omega arith
 
 cast-t : tie.Need-cast-t Inv-loop μ-loop
-cast-t c =
-    let l = c .before .before .before .loop in
-    omega (arith, c .shared-slice-known6 .given (l .k * 2 + 1))
+cast-t c = omega arith
+
+-- the row at hand is in its place
+placed : (t : tie.After-record-type Inv-loop μ-loop)
+    → (t .record-type .result < rows (now (t .before .before .before .before .before .before .before .before .args .types)))
+    × (headOf (now (t .before .before .before .before .before .before .before .before .args .types)) (t .record-type .result) ≤ 8)
+    × (t .before .start .result + headOf (now (t .before .before .before .before .before .before .before .before .args .types)) (t .record-type .result) ≤ length (now (t .before .before .before .before .before .before .before .before .args .memory)))
+placed t =
+    let l = t .before .before .before .loop in
+    layout-row _ _ _ _ (t .before .before .before .before .before .before .before .before .pre .0) (l .k) (omega arith) _ _ (t .before .start .ensures) (t .record-type .ensures)
 
 head-requires : tie.Need-head-requires Inv-loop μ-loop
-head-requires c κs =
-    let l = c .before .before .before .loop in
-    let s = c .before .before .before .before .before .before .before .before in
-    omega (arith, layout-row _ _ _ _ (s .pre .0) (l .k) (omega arith))
+head-requires c κs = omega (arith, placed c)
 
 cast-n : tie.Need-cast-n Inv-loop μ-loop
 cast-n c = omega arith
 
 mul-first-unmet : tie.Need-mul-first-unmet Inv-loop μ-loop
-mul-first-unmet c =
-    let l = c .before .before .before .before .loop in
-    let s = c .before .before .before .before .before .before .before .before .before in
-    omega (arith, layout-row _ _ _ _ (s .pre .0) (l .k) (omega arith))
+mul-first-unmet c = omega (arith, placed (c .before))
 
 sub-first-unmet : tie.Need-sub-first-unmet Inv-loop μ-loop
-sub-first-unmet c =
-    let l = c .before .before .before .before .loop in
-    let s = c .before .before .before .before .before .before .before .before .before in
-    omega (arith, layout-row _ _ _ _ (s .pre .0) (l .k) (omega arith))
+sub-first-unmet c = omega (arith, placed (c .before))
 
 part-first-unmet-start : tie.Need-part-first-unmet-start Inv-loop μ-loop
-part-first-unmet-start c =
-    let l = c .before .before .before .before .loop in
-    let s = c .before .before .before .before .before .before .before .before .before in
-    omega (arith, layout-row _ _ _ _ (s .pre .0) (l .k) (omega arith))
+part-first-unmet-start c = omega (arith, placed (c .before))
 
 part-first-unmet-end : tie.Need-part-first-unmet-end Inv-loop μ-loop
-part-first-unmet-end c =
-    let l = c .before .before .before .before .loop in
-    let s = c .before .before .before .before .before .before .before .before .before in
-    omega (arith, layout-row _ _ _ _ (s .pre .0) (l .k) (omega arith))
+part-first-unmet-end c = omega (arith, placed (c .before))
 
 first-unmet-requires : tie.Need-first-unmet-requires Inv-loop μ-loop
 first-unmet-requires c κs =
     let h = c .before in
-    let l = h .before .before .before .before .loop in
     let s = h .before .before .before .before .before .before .before .before .before in
-    let r = layout-row _ _ _ _ (s .pre .0) (l .k) (omega arith) in (
+    let r = placed (h .before) in (
       layout-sized _ _ _ _ (s .pre .0),
       omega (arith, r),
       omega (arith, r, h .head .ensures),
@@ -102,9 +76,8 @@ first-unmet-requires c κs =
 refused-at-requires : tie.Need-refused-at-requires Inv-loop μ-loop
 refused-at-requires c κs =
     let h = c .before .before .before in
-    let l = h .before .before .before .before .loop in
     let s = h .before .before .before .before .before .before .before .before .before in
-    omega (arith, h .head .ensures, layout-rows _ _ _ _ (s .pre .0), layout-row _ _ _ _ (s .pre .0) (l .k) (omega arith))
+    omega (arith, h .head .ensures, layout-rows _ _ _ _ (s .pre .0), placed (h .before))
 
 returns : tie.Need-returns Inv-loop μ-loop
 returns c =
@@ -112,7 +85,7 @@ returns c =
     let h = m .before .before in
     let l = h .before .before .before .before .loop in
     let s = h .before .before .before .before .before .before .before .before .before in
-    c .refused-at .ensures ∙ records-stop _ _ (now (s .args .allocations)) (now (s .args .memory)) (l .k) _ (l .inv .0) (omega arith) _ _ _ _ refl refl
+    c .refused-at .ensures ∙ records-stop _ _ (now (s .args .allocations)) (now (s .args .memory)) (l .k) _ (l .inv .0) (omega arith) _ _ _ _ (h .before .before .start .ensures) (h .before .record-type .ensures)
     (h .head .ensures) (m .first-unmet .ensures _ (s .pre .1)) (omega arith)
 
 add-k : tie.Need-add-k Inv-loop μ-loop
@@ -127,7 +100,7 @@ loop-again c =
     let h = m .before .before in
     let l = h .before .before .before .before .loop in
     let s = h .before .before .before .before .before .before .before .before .before in (
-      records-on _ _ (now (s .args .allocations)) (now (s .args .memory)) (l .k) _ (l .inv .0) (omega arith) _ _ _ _ refl refl
+      records-on _ _ (now (s .args .allocations)) (now (s .args .memory)) (l .k) _ (l .inv .0) (omega arith) _ _ _ _ (h .before .before .start .ensures) (h .before .record-type .ensures)
           (h .head .ensures) (m .first-unmet .ensures _ (s .pre .1)) (omega arith),
       omega arith,
     )
@@ -148,14 +121,9 @@ records-spec =
     Inv-loop
     μ-loop
     loop-holds
-    mul-start
-    mul-start-2
-    shared-slice-read-start
+    start-requires
     cast-start
-    mul-t
-    add-t
-    mul-t-2
-    shared-slice-read-t
+    record-type-requires
     cast-t
     head-requires
     cast-n

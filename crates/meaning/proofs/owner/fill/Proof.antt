@@ -1,12 +1,12 @@
 -- `meaning::owner::fill` meets its contract. The invariant: the table holds the rows from k on.
-use mathlib.Core.Path.{_≡_, refl}
-use Prim.Native.Nat.{_*_, _/_, _≤_, _-_}
+use mathlib.Core.Path.{_≡_}
+use Prim.Native.Nat.{_+_, _*_, _/_, _≤_, _<_, _-_}
 use native.Mathlib.Omega.{arith}
 use denote.Ref.{now}
 use lib.ListN.{length, drop}
-use Rattle.model.specs.Table.{headOf}
+use Rattle.model.specs.Table.{rows, headOf}
 use Rattle.meaning.specs.Owners.{ownersOf}
-use Rattle.meaning.proofs.Owners.{fill-none, fill-row, fill-all}
+use Rattle.meaning.proofs.Owners.{fill-none, fill-row, fill-all, row-placed}
 use Rattle.meaning.proofs.owner.fill.Statement.{statement}
 use Rattle.meaning.proofs.owner.fill.Tie as tie
 
@@ -25,68 +25,45 @@ loop-holds c =
 sub-k : tie.Need-sub-k Inv-loop μ-loop
 sub-k c = omega arith
 
-mul-p : tie.Need-mul-p Inv-loop μ-loop
-mul-p c = omega arith
+start-requires : tie.Need-start-requires Inv-loop μ-loop
+start-requires c κs = omega (arith, c .before .before .before .before .pre .1)
 
-mul-p-2 : tie.Need-mul-p-2 Inv-loop μ-loop
-mul-p-2 c = omega arith
+record-type-requires : tie.Need-record-type-requires Inv-loop μ-loop
+record-type-requires c κs = omega (arith, c .before .before .before .before .before .pre .1)
 
-shared-slice-read-p : tie.Need-shared-slice-read-p Inv-loop μ-loop
-shared-slice-read-p c = omega arith
-
-mul-t : tie.Need-mul-t Inv-loop μ-loop
-mul-t c = omega arith
-
-add-t : tie.Need-add-t Inv-loop μ-loop
-add-t c = omega arith
-
-mul-t-2 : tie.Need-mul-t-2 Inv-loop μ-loop
-mul-t-2 c = omega arith
-
-shared-slice-read-t : tie.Need-shared-slice-read-t Inv-loop μ-loop
-shared-slice-read-t c = omega arith
+-- the row at hand is in its place
+placed : (t : tie.After-record-type Inv-loop μ-loop)
+    → (t .record-type .result < rows (now (t .before .before .before .before .before .before .args .types)))
+    × (1 ≤ headOf (now (t .before .before .before .before .before .before .args .types)) (t .record-type .result))
+    × (t .before .start .result + headOf (now (t .before .before .before .before .before .before .args .types)) (t .record-type .result) ≤ 16384)
+placed t =
+    let l = t .before .before .before .loop in
+    let s = t .before .before .before .before .before .before in
+    row-placed _ (now (s .args .allocations)) (l .k - 1) (s .pre .2 (l .k - 1) (omega (arith, s .pre .1))) _ _ (t .before .start .ensures)
+    (t .record-type .ensures)
 
 cast-head : tie.Need-cast-head Inv-loop μ-loop
-cast-head c =
-    let l = c .before .before .before .loop in
-    let s = c .before .before .before .before .before .before in
-    omega (arith, s .pre .2 (l .k - 1) (omega arith))
+cast-head c = omega arith
 
 head-requires : tie.Need-head-requires Inv-loop μ-loop
-head-requires c κs =
-    let l = c .before .before .before .loop in
-    let s = c .before .before .before .before .before .before in
-    omega (arith, s .pre .2 (l .k - 1) (omega arith))
+head-requires c κs = omega (arith, placed c)
 
 add-entry : tie.Need-add-entry Inv-loop μ-loop
 add-entry c =
-    let l = c .before .before .before .before .before .loop in
-    let s = c .before .before .before .before .before .before .before .before in
-    omega (arith, c .before .head .ensures, s .pre .2 (l .k - 1) (omega arith))
+    omega (arith, c .before .head .ensures, placed (c .before .before))
 
 entry-requires : tie.Need-entry-requires Inv-loop μ-loop
 entry-requires c κs =
-    let l = c .before .before .before .before .before .loop in
-    let s = c .before .before .before .before .before .before .before .before in
-    omega (arith, c .before .head .ensures, s .pre .0, s .pre .2 (l .k - 1) (omega arith))
+    omega (arith, c .before .head .ensures, c .before .before .before .before .before .before .before .before .pre .0, placed (c .before .before))
 
 cast-owners : tie.Need-cast-owners Inv-loop μ-loop
-cast-owners c =
-    let l = c .before .before .before .before .before .before .loop in
-    let s = c .before .before .before .before .before .before .before .before .before in
-    omega (arith, s .pre .2 (l .k - 1) (omega arith))
+cast-owners c = omega (arith, placed (c .before .before .before))
 
 mul-owners : tie.Need-mul-owners Inv-loop μ-loop
-mul-owners c =
-    let l = c .before .before .before .before .before .before .loop in
-    let s = c .before .before .before .before .before .before .before .before .before in
-    omega (arith, s .pre .2 (l .k - 1) (omega arith))
+mul-owners c = omega (arith, placed (c .before .before .before))
 
 element-write-owners : tie.Need-element-write-owners Inv-loop μ-loop
-element-write-owners c =
-    let l = c .before .before .before .before .before .before .loop in
-    let s = c .before .before .before .before .before .before .before .before .before in
-    omega (arith, s .pre .2 (l .k - 1) (omega arith))
+element-write-owners c = omega (arith, placed (c .before .before .before))
 
 loop-less : tie.Need-loop-less Inv-loop μ-loop
 loop-less c = omega arith
@@ -95,7 +72,8 @@ loop-again : tie.Need-loop-again Inv-loop μ-loop
 loop-again c =
     let l = c .before .before .before .before .before .before .loop in
     let s = c .before .before .before .before .before .before .before .before .before in (
-      fill-row _ (now (s .args .allocations)) _ (l .k - 1) (l .k) _ (omega arith) (omega arith) (l .inv .0) _ _ _ _ refl refl
+      fill-row _ (now (s .args .allocations)) _ (l .k - 1) (l .k) _ (omega arith) (omega arith) (l .inv .0) _ _ _ _
+          (c .before .before .before .before .start .ensures) (c .before .before .before .record-type .ensures)
           (c .before .before .head .ensures) (c .entry .ensures),
       omega arith,
     )
@@ -113,13 +91,8 @@ fill-spec =
     μ-loop
     loop-holds
     sub-k
-    mul-p
-    mul-p-2
-    shared-slice-read-p
-    mul-t
-    add-t
-    mul-t-2
-    shared-slice-read-t
+    start-requires
+    record-type-requires
     cast-head
     head-requires
     add-entry
