@@ -159,10 +159,10 @@ module _ (words frames constants : List ℕ) (v : ℕ) where
         (λ e. rw (type-present σ m e)) (λ e. rw (type-same σ m e)) (λ i e. rw (type-span σ m i e, ne-eqb i 0 (λ z. n (omega arith))))
 
     -- d is a dependency of v
-    module _ (f d p : ℕ) (ef : f ≡ getD (framesOf frames) (birthplace v) 0) (ed : depAt d ≡ siblingOf f p) where
+    module _ (d p : ℕ) (ed : depAt d ≡ siblingOf (getD (framesOf frames) (birthplace v) 0) p) where
       own : (q : ℕ) → p ≡ q → depAt d ≡ renameDep σ (depOf q)
       unfolding siblingOf
-      own q ep = ed ∙ ap (λ (z : ℕ). siblingOf z p) ef ∙ ap (λ (z : ℕ). siblingOf (getD (framesOf frames) (birthplace v) 0) z) ep
+      own q ep = ed ∙ ap (λ (z : ℕ). siblingOf (getD (framesOf frames) (birthplace v) 0) z) ep
 
       module _ (e : j ≡ 7) (ep : p ≡ secondOf m) where
         pub below-not : knownEqual vs (depAt u) (depAt d) ≡ false → valuesOf (set words v m) frames constants 0 0 ≡ below vs v u (typed vs v)

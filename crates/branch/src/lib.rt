@@ -58,7 +58,7 @@ fn below(words: &[u32; 256], frames: &[u8; 32], constants: &[u32; 32], v: u8, u:
     if word::kind(w) != word::FROM {
         return w;
     }
-    let e = fits::sibling(fits::frame(frames, v as u32), word::second_dependency(w));
+    let e = fits::dependency(frames, v as u32, word::second_dependency(w));
     if !fits::known_equal(words, frames, constants, 0, 0, u, e) {
         return w;
     }
@@ -74,7 +74,7 @@ fn not_below(words: &[u32; 256], frames: &[u8; 32], constants: &[u32; 32], v: u8
     if word::kind(w) != word::RUN {
         return w;
     }
-    let d = fits::sibling(fits::frame(frames, v as u32), word::first_dependency(w));
+    let d = fits::dependency(frames, v as u32, word::first_dependency(w));
     if !fits::known_equal(words, frames, constants, 0, 0, u, d) {
         return w;
     }

@@ -75,11 +75,11 @@ module _ (words frames constants : List ℕ) (tested equal x y : ℕ) where
       (byKind (kindOf w) (λ e. rw (type-any σ w e)) (λ e. rw (type-ref σ w e)) (λ e. rw (type-maybe σ w e)) (λ e. rw (type-tagged σ w e))
       (λ e. rw (type-present σ w e)) (λ e. absurd (n e)) (λ k e. rw (type-span σ w k e)))
 
-  pub says-same : x < 256 → kindOf (getD words x 0) ≡ 5 → (f : ℕ) → f ≡ getD (framesOf frames) (birthplace x) 0
-      → (p d : ℕ) → p ≡ firstOf (getD words x 0) → depAt d ≡ siblingOf f p → eqb d y ≡ saysSame us (depAt x) (depAt y)
+  pub says-same : x < 256 → kindOf (getD words x 0) ≡ 5 → (p d : ℕ) → p ≡ firstOf (getD words x 0)
+      → depAt d ≡ siblingOf (getD (framesOf frames) (birthplace x) 0) p → eqb d y ≡ saysSame us (depAt x) (depAt y)
   unfolding saysSame typed isSame siblingOf
-  says-same h k f ef p d ep ed =
-      rw (dep-name x h, type-same (λ i. getD (framesOf frames) (birthplace x) 0 + i) (getD words x 0) k, ← ef, ← ep, ← ed) (sym (same-numbers d y))
+  says-same h k p d ep ed =
+      rw (dep-name x h, type-same (λ i. getD (framesOf frames) (birthplace x) 0 + i) (getD words x 0) k, ← ep, ← ed) (sym (same-numbers d y))
 
 module _ (vs : Values) (x y : ℕ) where
   pub equal-one : x ≡ y → true ≡ knownEqual vs (depAt x) (depAt y)
@@ -187,10 +187,10 @@ module _ (𝒯 : Tables) (words frames constants : List ℕ) (tested equal v t :
       (λ e. rw (type-present σ m e)) (λ e. rw (type-same σ m e)) (λ j e. rw (type-span σ m j e))
 
   -- x is the dependency of v
-  module _ (f x p : ℕ) (ef : f ≡ getD (framesOf frames) (birthplace v) 0) (ep : p ≡ firstOf m) (ex : depAt x ≡ siblingOf f p) where
+  module _ (x p : ℕ) (ep : p ≡ firstOf m) (ex : depAt x ≡ siblingOf (getD (framesOf frames) (birthplace v) 0) p) where
     own : depAt x ≡ renameDep σ (depOf (firstOf m))
     unfolding siblingOf
-    own = ex ∙ ap (λ (z : ℕ). siblingOf z p) ef ∙ ap (λ (z : ℕ). siblingOf (getD (framesOf frames) (birthplace v) 0) z) ep
+    own = ex ∙ ap (λ (z : ℕ). siblingOf (getD (framesOf frames) (birthplace v) 0) z) ep
 
     pub ref-present : k ≡ 4 → (b : Bool) → b ≡ knownTag 𝒯 ws t (depAt x) → b ≡ isRef 𝒯 ws t (typed ws v)
     unfolding isRef typed

@@ -40,7 +40,7 @@ pub fn index(x: u8) -> usize
 // ---- dependencies
 
 // The first name of the frame that the value v is read in.
-pub fn frame(frames: &[u8; 32], v: u32) -> u32
+fn frame(frames: &[u8; 32], v: u32) -> u32
     requires { ⌜ v < 256 ⌝ }
     ensures { λ r. ⌜ (r ≡ getD (framesOf (now (frames .entry))) (birthplace v) 0) × (r ≤ 248) ⌝ }
 {
@@ -48,7 +48,7 @@ pub fn frame(frames: &[u8; 32], v: u32) -> u32
 }
 
 // The dependency byte x in a frame.
-pub fn sibling(frame: u32, x: u32) -> u32
+fn sibling(frame: u32, x: u32) -> u32
     requires { ⌜ (frame ≤ 248) × (x < 256) ⌝ }
     ensures { λ r. ⌜ depAt r ≡ siblingOf frame x ⌝ }
 {
@@ -56,6 +56,14 @@ pub fn sibling(frame: u32, x: u32) -> u32
         return frame + x;
     }
     x + 248
+}
+
+// The dependency byte x of the type word of the value v.
+pub fn dependency(frames: &[u8; 32], v: u32, x: u32) -> u32
+    requires { ⌜ (v < 256) × (x < 256) ⌝ }
+    ensures { λ r. ⌜ depAt r ≡ siblingOf (getD (framesOf (now (frames .entry))) (birthplace v) 0) x ⌝ }
+{
+    sibling(frame(frames, v), x)
 }
 
 // The dependency byte x where the names stand for other values.
@@ -160,7 +168,7 @@ fn says_same(words: &[u32; 256], frames: &[u8; 32], x: u32, y: u32) -> bool
     if word::kind(w) != word::SAME {
         return false;
     }
-    sibling(frame(frames, x), word::first_dependency(w)) == y
+    dependency(frames, x, word::first_dependency(w)) == y
 }
 
 pub fn known_equal(
@@ -298,7 +306,7 @@ fn is_ref(
     if kind != word::PRESENT {
         return false;
     }
-    let x = sibling(frame(frames, v as u32), word::first_dependency(w));
+    let x = dependency(frames, v as u32, word::first_dependency(w));
     known_tag(tags, words, constants, tested, equal, x, t)
 }
 
@@ -323,7 +331,7 @@ fn is_maybe(
     if kind != word::TAGGED {
         return false;
     }
-    let x = sibling(frame(frames, v as u32), word::first_dependency(w));
+    let x = dependency(frames, v as u32, word::first_dependency(w));
     known_tag_or_beyond(tags, words, constants, tested, equal, x, t)
 }
 
@@ -343,7 +351,7 @@ fn is_present(
     let w = words[v as usize];
     let kind = word::kind(w);
     if kind == word::PRESENT {
-        let x = sibling(frame(frames, v as u32), word::first_dependency(w));
+        let x = dependency(frames, v as u32, word::first_dependency(w));
         return known_equal(words, frames, constants, tested, equal, x, y);
     }
     if kind == word::REF {
@@ -387,7 +395,7 @@ fn is_tagged(
     let w = words[v as usize];
     let kind = word::kind(w);
     if kind == word::TAGGED {
-        let x = sibling(frame(frames, v as u32), word::first_dependency(w));
+        let x = dependency(frames, v as u32, word::first_dependency(w));
         return known_equal(words, frames, constants, tested, equal, x, y);
     }
     if kind == word::MAYBE {
@@ -641,6 +649,6 @@ pub fn reference(
     if kind != word::PRESENT {
         return Reference::Nothing;
     }
-    let x = sibling(frame(frames, v as u32), word::first_dependency(w));
+    let x = dependency(frames, v as u32, word::first_dependency(w));
     first_tag(tags, constants_of(words, constants, tested, equal, x))
 }

@@ -18,23 +18,20 @@ kind-requires c κs = search needs
 returns : tie.Need-returns
 returns c = below-other _ _ _ _ _ (c .before .before .before .pre) _ (c .before .kind .ensures .0) (λ h. omega arith)
 
-frame-requires : tie.Need-frame-requires
-frame-requires c κs = search needs
-
 second-dependency-requires : tie.Need-second-dependency-requires
 second-dependency-requires c κs = search needs
 
-sibling-requires : tie.Need-sibling-requires
-sibling-requires c κs = search needs
+dependency-requires : tie.Need-dependency-requires
+dependency-requires c κs = search needs
 
 known-equal-requires : tie.Need-known-equal-requires
 known-equal-requires c κs = search needs
 
 returns-2 : tie.Need-returns-2
 returns-2 c =
-    below-not _ _ _ _ _ (c .before .before .before .before .before .before .before .before .pre) _
-    (c .before .before .before .before .before .before .kind .ensures .0) _ _ _ (c .before .before .before .before .frame .ensures .0)
-    (c .before .before .sibling .ensures) (omega arith) (c .before .before .before .second-dependency .ensures .0) (told-no
+    below-not _ _ _ _ _ (c .before .before .before .before .before .before .before .pre) _
+    (c .before .before .before .before .before .kind .ensures .0) _ _
+    (c .before .before .dependency .ensures) (omega arith) (c .before .before .before .second-dependency .ensures .0) (told-no
     (c .before .known-equal .ensures) (c .if2 .taken))
 
 with-kind-requires : tie.Need-with-kind-requires
@@ -42,9 +39,9 @@ with-kind-requires c κs = search needs
 
 returns-3 : tie.Need-returns-3
 returns-3 c =
-    below-is _ _ _ _ _ (c .before .before .before .before .before .before .before .before .before .pre) _
-    (c .before .before .before .before .before .before .before .kind .ensures .0) _ _ _ (c .before .before .before .before .before .frame .ensures .0)
-    (c .before .before .before .sibling .ensures) (omega arith) (c .before .before .before .before .second-dependency .ensures .0) (told-yes
+    below-is _ _ _ _ _ (c .before .before .before .before .before .before .before .before .pre) _
+    (c .before .before .before .before .before .before .kind .ensures .0) _ _
+    (c .before .before .before .dependency .ensures) (omega arith) (c .before .before .before .before .second-dependency .ensures .0) (told-yes
     (c .before .before .known-equal .ensures) (c .before .if2 .left)) _
     (c .with-kind .ensures)
 
@@ -56,9 +53,8 @@ below-spec =
     element-copy-out-w
     kind-requires
     returns
-    frame-requires
     second-dependency-requires
-    sibling-requires
+    dependency-requires
     known-equal-requires
     returns-2
     with-kind-requires

@@ -23,22 +23,18 @@ returns c = λ types. maybe-maybe _ _ _ _ _ _ _ _ _ (c .before .before .kind .en
 returns-2 : tie.Need-returns-2
 returns-2 c = λ types. maybe-other _ _ _ _ _ _ _ _ _ (c .before .before .kind .ensures .0) (λ h. omega arith) (λ h. omega arith)
 
-frame-requires : tie.Need-frame-requires
-frame-requires c κs = search needs
-
 first-dependency-requires : tie.Need-first-dependency-requires
 first-dependency-requires c κs = search needs
 
-sibling-requires : tie.Need-sibling-requires
-sibling-requires c κs = search needs
+dependency-requires : tie.Need-dependency-requires
+dependency-requires c κs = search needs
 
 known-tag-or-beyond-requires : tie.Need-known-tag-or-beyond-requires
 known-tag-or-beyond-requires c κs = search needs
 
 returns-3 : tie.Need-returns-3
 returns-3 c =
-    λ types. maybe-tagged _ _ _ _ _ _ _ _ _ (c .before .before .before .before .before .before .kind .ensures .0) _ _ _
-    (c .before .before .before .frame .ensures .0) (c .before .before .first-dependency .ensures .0) (c .before .sibling .ensures)
+    λ types. maybe-tagged _ _ _ _ _ _ _ _ _ (c .before .before .before .before .before .kind .ensures .0) _ _ (c .before .before .first-dependency .ensures .0) (c .before .dependency .ensures)
     (omega arith) _ (c .known-tag-or-beyond .ensures types _)
 
 pub is-maybe-spec : {M : Type 1} → statement M
@@ -51,8 +47,7 @@ is-maybe-spec =
     record-type-requires
     returns
     returns-2
-    frame-requires
     first-dependency-requires
-    sibling-requires
+    dependency-requires
     known-tag-or-beyond-requires
     returns-3)

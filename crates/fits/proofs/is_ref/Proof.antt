@@ -31,22 +31,18 @@ returns-3 c =
     λ types. ref-other _ _ _ _ _ _ _ _ _ (c .before .before .before .kind .ensures .0) (λ h. omega arith) (λ h. omega arith)
     (λ h. omega arith)
 
-frame-requires : tie.Need-frame-requires
-frame-requires c κs = search needs
-
 first-dependency-requires : tie.Need-first-dependency-requires
 first-dependency-requires c κs = search needs
 
-sibling-requires : tie.Need-sibling-requires
-sibling-requires c κs = search needs
+dependency-requires : tie.Need-dependency-requires
+dependency-requires c κs = search needs
 
 known-tag-requires : tie.Need-known-tag-requires
 known-tag-requires c κs = search needs
 
 returns-4 : tie.Need-returns-4
 returns-4 c =
-    λ types. ref-present _ _ _ _ _ _ _ _ _ (c .before .before .before .before .before .before .before .kind .ensures .0) _ _ _
-    (c .before .before .before .frame .ensures .0) (c .before .before .first-dependency .ensures .0) (c .before .sibling .ensures)
+    λ types. ref-present _ _ _ _ _ _ _ _ _ (c .before .before .before .before .before .before .kind .ensures .0) _ _ (c .before .before .first-dependency .ensures .0) (c .before .dependency .ensures)
     (omega arith) _ (c .known-tag .ensures types _)
 
 pub is-ref-spec : {M : Type 1} → statement M
@@ -61,8 +57,7 @@ is-ref-spec =
     record-type-requires-2
     returns-2
     returns-3
-    frame-requires
     first-dependency-requires
-    sibling-requires
+    dependency-requires
     known-tag-requires
     returns-4)

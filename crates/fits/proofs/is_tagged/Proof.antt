@@ -15,22 +15,18 @@ element-copy-out-w c = search needs
 kind-requires : tie.Need-kind-requires
 kind-requires c κs = search needs
 
-frame-requires : tie.Need-frame-requires
-frame-requires c κs = search needs
-
 first-dependency-requires : tie.Need-first-dependency-requires
 first-dependency-requires c κs = search needs
 
-sibling-requires : tie.Need-sibling-requires
-sibling-requires c κs = search needs
+dependency-requires : tie.Need-dependency-requires
+dependency-requires c κs = search needs
 
 known-equal-requires : tie.Need-known-equal-requires
 known-equal-requires c κs = search needs
 
 returns : tie.Need-returns
 returns c =
-    λ types. tagged-tagged _ _ _ _ _ _ _ _ _ (c .before .before .before .before .before .kind .ensures .0) _ _ _
-    (c .before .before .before .frame .ensures .0) (c .before .before .first-dependency .ensures .0) (c .before .sibling .ensures)
+    λ types. tagged-tagged _ _ _ _ _ _ _ _ _ (c .before .before .before .before .kind .ensures .0) _ _ (c .before .before .first-dependency .ensures .0) (c .before .dependency .ensures)
     (omega arith) _ (c .known-equal .ensures)
 
 record-type-requires : tie.Need-record-type-requires
@@ -59,9 +55,8 @@ is-tagged-spec =
     mul-w
     element-copy-out-w
     kind-requires
-    frame-requires
     first-dependency-requires
-    sibling-requires
+    dependency-requires
     known-equal-requires
     returns
     record-type-requires

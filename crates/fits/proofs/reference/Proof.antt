@@ -34,14 +34,11 @@ returns-3 c =
     λ types. reference-other _ _ _ _ _ _ _ 0 _ (c .before .before .before .kind .ensures .0) (λ h. omega arith) (λ h. omega arith)
     (λ h. omega arith)
 
-frame-requires : tie.Need-frame-requires
-frame-requires c κs = search needs
-
 first-dependency-requires : tie.Need-first-dependency-requires
 first-dependency-requires c κs = search needs
 
-sibling-requires : tie.Need-sibling-requires
-sibling-requires c κs = search needs
+dependency-requires : tie.Need-dependency-requires
+dependency-requires c κs = search needs
 
 constants-of-requires : tie.Need-constants-of-requires
 constants-of-requires c κs = search needs
@@ -51,9 +48,8 @@ first-tag-requires c κs = search needs
 
 returns-4 : tie.Need-returns-4
 returns-4 c =
-    λ types. reference-present _ _ _ _ _ _ _ 0 _ (c .before .before .before .before .before .before .before .before .kind .ensures .0) _ _ _
-    (c .before .before .before .before .frame .ensures .0) (c .before .before .before .first-dependency .ensures .0)
-    (c .before .before .sibling .ensures) (omega arith) _ (c .first-tag .ensures types ∙ ap (firstTag _)
+    λ types. reference-present _ _ _ _ _ _ _ 0 _ (c .before .before .before .before .before .before .before .kind .ensures .0) _ _ (c .before .before .before .first-dependency .ensures .0)
+    (c .before .before .dependency .ensures) (omega arith) _ (c .first-tag .ensures types ∙ ap (firstTag _)
     (c .before .constants-of .ensures _))
 
 pub reference-spec : {M : Type 1} → statement M
@@ -68,9 +64,8 @@ reference-spec =
     record-type-requires-2
     returns-2
     returns-3
-    frame-requires
     first-dependency-requires
-    sibling-requires
+    dependency-requires
     constants-of-requires
     first-tag-requires
     returns-4)

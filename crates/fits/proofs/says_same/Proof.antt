@@ -20,19 +20,15 @@ kind-requires c κs = search needs
 returns-2 : tie.Need-returns-2
 returns-2 c = λ constants tested equal. says-other _ _ constants tested equal _ _ (omega arith) (λ h. omega arith)
 
-frame-requires : tie.Need-frame-requires
-frame-requires c κs = search needs
-
 first-dependency-requires : tie.Need-first-dependency-requires
 first-dependency-requires c κs = search needs
 
-sibling-requires : tie.Need-sibling-requires
-sibling-requires c κs = search needs
+dependency-requires : tie.Need-dependency-requires
+dependency-requires c κs = search needs
 
 returns-3 : tie.Need-returns-3
 returns-3 c =
-    λ constants tested equal. says-same _ _ constants tested equal _ _ (omega arith) (omega arith) _
-    (c .before .before .frame .ensures .0) _ _ (c .before .first-dependency .ensures .0) (c .sibling .ensures)
+    λ constants tested equal. says-same _ _ constants tested equal _ _ (omega arith) (omega arith) _ _ (c .before .first-dependency .ensures .0) (c .dependency .ensures)
 
 pub says-same-spec : {M : Type 1} → statement M
 says-same-spec =
@@ -43,7 +39,6 @@ says-same-spec =
     element-copy-out-w
     kind-requires
     returns-2
-    frame-requires
     first-dependency-requires
-    sibling-requires
+    dependency-requires
     returns-3)
