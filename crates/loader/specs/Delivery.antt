@@ -29,7 +29,7 @@ EntryCheckGave types tags allocations memory blocks code b r v left = (v ≡ ent
 abbrev pub RunGave : (blocks code memory : List ℕ) (b : ℕ) (r : List ℕ) (budget : ℕ) → RunAnswer → (left : List ℕ) → Type 0
 RunGave blocks code memory b r budget a left = (a ≡ returned (run blocks code memory b r budget)) × (left ≡ run blocks code memory b r budget .memory)
 
--- 01: 'A paused routine resumes with exactly what it returned'. Any number but 0 is taken for a pause; no turn gives another than 40.
+-- 01: 'A paused routine resumes with exactly what it returned'. Any number but 0 is taken for a pause; no turn here gives another than 40.
 abbrev pub standing : RunAnswer → Standing
 standing a = pick (eqb (a .number) 0) done (waiting (a .block) (a .registers))
 

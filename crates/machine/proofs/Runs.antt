@@ -15,7 +15,7 @@ use Rattle.model.specs.Machine.{Instruction, plain, end, malformed, instruction
 use Rattle.model.proofs.Logic.{number-unless}
 use Rattle.model.proofs.BlockSound.{Sized}
 use Rattle.model.proofs.TableLaws.{sized}
-use Rattle.model.proofs.MachineLaws.{goes-halts, goes-faults, Placed, placed-here, placed-step, later, laterRan, blocks-later}
+use Rattle.model.proofs.MachineLaws.{goes-halts, goes-faults, OfCode, of-7, of-8, of-9, of-18, of-22, fault-asks, Placed, placed-here, placed-step, later, laterRan, blocks-later}
 use Rattle.model.proofs.RunCalls.{run-is}
 use Rattle.table.proofs.Questions.{left, no-refusal, then-on, then-stops}
 use Rattle.table.proofs.Laws.{start-more}
@@ -30,30 +30,17 @@ use Rattle.machine.specs.Run.{Covers, ranOf}
 NoFirst : Step → Type 0
 NoFirst x = (s : State) → x ≡ faults q1 s → ⊥
 
+not-first : {q : Question} → OfCode q → numberOf q ≡ 1 → ⊥
+not-first of-7 e = omega arith
+not-first of-8 e = omega arith
+not-first of-9 e = omega arith
+not-first of-18 e = omega arith
+not-first of-22 e = omega arith
+
 module _ (P : Routine) where
-  need-asks : (b : Bool) (q : Question) (s : State) (k : Unit {0} → Step) → NoFirst (faults q s) → NoFirst (k tt) → NoFirst (need b q s k)
-  unfolding need
-  need-asks true q s k f g = g
-  need-asks false q s k f g = f
-
-  leave-asks : (s : State) (n : Next) → NoFirst (leave s n)
-  unfolding leave NoFirst
-  leave-asks s stop = λ t e. let z : _≡_ {A = ℕ} 0 1 = cc in omega arith
-  leave-asks s (enter b) = λ t e. let z : _≡_ {A = ℕ} 0 1 = cc in omega arith
-
-  perform-asks : (x : Instruction) (s : State) → NoFirst (perform P x s)
-  unfolding perform NoFirst
-  perform-asks malformed s = λ t e. let z : _≡_ {A = ℕ} 0 1 = cc in omega arith
-  perform-asks (plain x) s =
-      need-asks _ q8 s _ (λ t e. let z : _≡_ {A = ℕ} 0 1 = cc in omega arith)
-      (need-asks _ q18 s _ (λ t e. let z : _≡_ {A = ℕ} 0 1 = cc in omega arith) (λ t e. let z : _≡_ {A = ℕ} 0 1 = cc in omega arith))
-  perform-asks (end x) s =
-      need-asks _ q8 s _ (λ t e. let z : _≡_ {A = ℕ} 0 1 = cc in omega arith)
-      (need-asks _ q9 s _ (λ t e. let z : _≡_ {A = ℕ} 0 1 = cc in omega arith) (leave-asks s (next x (s .block) (s .registers))))
-
   step-asks : (s : State) → NoFirst (step P s)
-  unfolding step NoFirst
-  step-asks s = need-asks _ q22 s _ (λ t e. let z : _≡_ {A = ℕ} 0 1 = cc in omega arith) (perform-asks (instructionAt P (s .block) (s .offset)) s)
+  unfolding NoFirst
+  step-asks s = λ t e. not-first (fault-asks P s t q1 e) refl
 
   steps-ask : (n : ℕ) (s : State) → NoFirst (steps P n s)
   unfolding steps onward NoFirst

@@ -17,10 +17,10 @@ use Rattle.model.specs.Cases.{plotTypes, plotTags, row, refWord, sameWor
 use Rattle.model.proofs.Safe.{demand-3}
 
 -- a plot with a raw weight at 1, one with a corrected weight at 3; raw 5, corrected 7, and a corrected record at 8 that no plot has yet
-abbrev allocations : List ℕ
+abbrev pub allocations : List ℕ
 allocations = 1 ∷ 2 ∷ 3 ∷ 2 ∷ 5 ∷ 0 ∷ 7 ∷ 1 ∷ 8 ∷ 1 ∷ []
 
-abbrev memory : List ℕ
+abbrev pub memory : List ℕ
 memory = 0 ∷ 0 ∷ 5 ∷ 1 ∷ 7 ∷ 8600 ∷ 22 ∷ 9100 ∷ 7800 ∷ 4 ∷ []
 
 -- the correction: block 0 goes to block 1, which sets stage and pointer of the plot in r1
@@ -40,7 +40,7 @@ abbrev ranking : Task
 ranking = record { blocks = stageBlocks 1; code = stageCode; start = 0; registers = 0 ∷ 1 ∷ 0 ∷ 0 ∷ 0 ∷ 0 ∷ 0 ∷ 0 ∷ [] }
 
 -- routine 0 is the correction; there are two routines, the second the ranking
-abbrev tasks : ℕ → Task
+abbrev pub tasks : ℕ → Task
 tasks zero = correction
 tasks (suc i) = ranking
 

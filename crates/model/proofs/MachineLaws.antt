@@ -9,7 +9,7 @@ use native.Mathlib.Nat.{add-zero, zero-add, suc-add}
 use lib.Dec.{ltb, eqb}
 use lib.ListN.{length, getD, set, length-set}
 use borrow.Author.Tests.{ltb-true, lt-ltb, eqb-true, eqb-false}
-use Rattle.model.specs.Question.{_and_, pick, Question, Refusal, Outcome, ok, refused}
+use Rattle.model.specs.Question.{_and_, pick, Question, q7, q8, q9, q18, q22, Refusal, Outcome, ok, refused}
 use Rattle.model.specs.Table.{Routine}
 use Rattle.model.specs.Machine.{Plain, End, halt, jump, ifEqual, ifLess, Instruction, plain, end, malformed, instructionAt, Effect, put, read, write, effect, addressed, registersAfter, memoryAfter, Next, stop, enter, next, targetsExist, State, Step, goes, halts, faults, need, after, atHalt, entering, leave, indexOf, atEnd, perform, step, Passes, here, on, Ran, halted, paused, faulted, onward, finish, steps, runBlocks}
 use Rattle.model.proofs.Logic.{byTest, and-true, not-true, pick-both}
@@ -23,8 +23,8 @@ goes-same e = cc
 halts-same : {s s' : State} → halts s ≡ halts s' → s ≡ s'
 halts-same e = cc
 
-faults-same : {q q' : Question} {s s' : State} → faults q s ≡ faults q' s' → s ≡ s'
-faults-same e = cc
+faults-same : {q q' : Question} {s s' : State} → faults q s ≡ faults q' s' → (q ≡ q') × (s ≡ s')
+faults-same e = (cc, cc)
 
 pub goes-halts : {s s' : State} → goes s ≡ halts s' → ⊥
 goes-halts e = let z : _≡_ {A = ℕ} 0 1 = cc in omega arith
@@ -35,18 +35,26 @@ goes-faults e = let z : _≡_ {A = ℕ} 0 1 = cc in omega arith
 pub halts-faults : {q : Question} {s s' : State} → halts s ≡ faults q s' → ⊥
 halts-faults e = let z : _≡_ {A = ℕ} 0 1 = cc in omega arith
 
+-- the questions that an instruction is asked
+pub data OfCode : Question → Type 0 where
+  of-7 : OfCode q7
+  of-8 : OfCode q8
+  of-9 : OfCode q9
+  of-18 : OfCode q18
+  of-22 : OfCode q22
+
 -- where a step leads: to the next instruction of the block; at the block's end, to another block or to the halt; or nowhere
 pub data Leads (P : Routine) (s : State) : Step → Type 0 where
   inside : (f : Effect) → (suc (s .offset) ≡ P .long (s .block) → ⊥) → Leads P s (goes (after s f))
   beyond : (t : ℕ) → t < P .count → suc (s .offset) ≡ P .long (s .block) → Leads P s (goes (entering s t))
   finally : suc (s .offset) ≡ P .long (s .block) → Leads P s (halts (atHalt s))
-  nowhere : (q : Question) → Leads P s (faults q s)
+  nowhere : (q : Question) → OfCode q → Leads P s (faults q s)
 
 module _ (P : Routine) where
-  need-leads : (s : State) (b : Bool) (q : Question) (k : Unit {0} → Step) → (b ≡ true → Leads P s (k tt)) → Leads P s (need b q s k)
+  need-leads : (s : State) (b : Bool) (q : Question) (k : Unit {0} → Step) → OfCode q → (b ≡ true → Leads P s (k tt)) → Leads P s (need b q s k)
   unfolding need
-  need-leads s true q k h = h refl
-  need-leads s false q k h = nowhere q
+  need-leads s true q k o h = h refl
+  need-leads s false q k o h = nowhere q o
 
   -- a block's end leads to a block that exists
   end-leads : (s : State) (e : End) → suc (s .offset) ≡ P .long (s .block) → targetsExist (P .count) (s .block) e ≡ true → Leads P s (leave s (next e (s .block) (s .registers)))
@@ -62,23 +70,29 @@ module _ (P : Routine) where
 
   performs : (s : State) (x : Instruction) → Leads P s (perform P x s)
   unfolding perform
-  performs s malformed = nowhere _
-  performs s (plain x) = need-leads s _ _ _ (λ p. need-leads s _ _ _ (λ q. inside (effect x (s .registers)) (eqb-false _ _ (not-true _ p))))
-  performs s (end e) = need-leads s _ _ _ (λ p. need-leads s _ _ _ (λ q. end-leads s e (eqb-true _ _ p) q))
+  performs s malformed = nowhere _ of-7
+  performs s (plain x) = need-leads s _ _ _ of-8 (λ p. need-leads s _ _ _ of-18 (λ q. inside (effect x (s .registers)) (eqb-false _ _ (not-true _ p))))
+  performs s (end e) = need-leads s _ _ _ of-8 (λ p. need-leads s _ _ _ of-9 (λ q. end-leads s e (eqb-true _ _ p) q))
 
   pub leads : (s : State) → Leads P s (step P s)
   unfolding step
-  leads s = need-leads s _ _ _ (λ q. performs s (instructionAt P (s .block) (s .offset)))
+  leads s = need-leads s _ _ _ of-22 (λ q. performs s (instructionAt P (s .block) (s .offset)))
 
-  -- a fault leaves the state as it was before the instruction
-  pub fault-stays : (s s' : State) (q : Question) → step P s ≡ faults q s' → s' ≡ s
-  fault-stays s s' q e = go (step P s) (leads s) e
+  fault-inverts : (s s' : State) (q : Question) → step P s ≡ faults q s' → (s' ≡ s) × OfCode q
+  fault-inverts s s' q e = go (step P s) (leads s) e
     where
-      go : (x : Step) → Leads P s x → x ≡ faults q s' → s' ≡ s
+      go : (x : Step) → Leads P s x → x ≡ faults q s' → (s' ≡ s) × OfCode q
       go x (inside f d) e = absurd (goes-faults e)
       go x (beyond t h l) e = absurd (goes-faults e)
       go x (finally l) e = absurd (halts-faults e)
-      go x (nowhere q) e = sym (faults-same e)
+      go x (nowhere q o) e = let (eq, es) = faults-same e in (sym es, rw (← eq) o)
+
+  -- a fault leaves the state as it was before the instruction
+  pub fault-stays : (s s' : State) (q : Question) → step P s ≡ faults q s' → s' ≡ s
+  fault-stays s s' q e = fault-inverts s s' q e .0
+
+  pub fault-asks : (s s' : State) (q : Question) → step P s ≡ faults q s' → OfCode q
+  fault-asks s s' q e = fault-inverts s s' q e .1
 
   -- a halt changes the counts alone
   pub halt-stays : (s s' : State) → step P s ≡ halts s' → s' ≡ atHalt s
@@ -88,7 +102,7 @@ module _ (P : Routine) where
       go x (inside f d) e = absurd (goes-halts e)
       go x (beyond t h l) e = absurd (goes-halts e)
       go x (finally l) e = sym (halts-same e)
-      go x (nowhere q) e = absurd (halts-faults (sym e))
+      go x (nowhere q o) e = absurd (halts-faults (sym e))
 
 -- ---- states passed through
 
@@ -105,6 +119,8 @@ pub record Placed (P : Routine) (s₀ s : State) : Type 0 where
   pub longRegisters : length (s .registers) ≡ length (s₀ .registers)
   pub longMemory : length (s .memory) ≡ length (s₀ .memory)
   pub untouched : (s .carried ≡ s₀ .carried → s ≡ s₀) × (s₀ .carried ≤ s .carried)
+  -- as long as no block is finished, the offset counts the instructions carried out
+  pub counted : (s .finished ≡ s₀ .finished → (s .block ≡ s₀ .block) × (s .carried ≡ s .offset + s₀ .carried)) × (s₀ .finished ≤ s .finished)
 
 module _ (P : Routine) (S : Sized P) where
   pub placed-step : (s₀ s s' : State) → Placed P s₀ s → step P s ≡ goes s' → Placed P s₀ s'
@@ -119,6 +135,7 @@ module _ (P : Routine) (S : Sized P) where
             longRegisters = r ∙ A .longRegisters;
             longMemory = m ∙ A .longMemory;
             untouched = (λ z. absurd (let y = A .untouched .1 in omega arith), let y = A .untouched .1 in omega arith);
+            counted = (λ z. let (eb, ec) = A .counted .0 z in (eb, omega arith), A .counted .1);
           })
       go x (beyond t h l) e =
           rw (← goes-same e) (record {
@@ -127,13 +144,14 @@ module _ (P : Routine) (S : Sized P) where
             longRegisters = A .longRegisters;
             longMemory = A .longMemory;
             untouched = (λ z. absurd (let y = A .untouched .1 in omega arith), let y = A .untouched .1 in omega arith);
+            counted = (λ z. absurd (let y = A .counted .1 in omega arith), let y = A .counted .1 in omega arith);
           })
       go x (finally l) e = absurd (goes-halts (sym e))
-      go x (nowhere q) e = absurd (goes-faults (sym e))
+      go x (nowhere q o) e = absurd (goes-faults (sym e))
 
   pub placed-here : (s : State) → s .block < P .count → s .offset ≡ 0 → Placed P s s
   placed-here s h z =
-      record { exists = h; within = rw z (S .least (s .block) h); longRegisters = refl; longMemory = refl; untouched = (λ e. refl, omega arith) }
+      record { exists = h; within = rw z (S .least (s .block) h); longRegisters = refl; longMemory = refl; untouched = (λ e. refl, omega arith); counted = (λ e. (refl, omega arith), omega arith) }
 
   pub placed : (last : ℕ) (s₀ s : State) → s₀ .block < P .count → s₀ .offset ≡ 0 → Passes P last s₀ s → Placed P s₀ s
   placed last s₀ s h z here = placed-here s₀ h z
@@ -175,7 +193,7 @@ module _ (P : Routine) (S : Sized P) (last : ℕ) (s₀ : State) where
       let z : n ≡ 0 = omega arith in
       rw z (next-block (on p l q) refl k refl)
   step-end n s p l h e rest x (finally m) q = halt-here p l q
-  step-end n s p l h e rest x (nowhere k) q = fault-here p l q
+  step-end n s p l h e rest x (nowhere k o) q = fault-here p l q
 
   block-end : (n : ℕ) (s : State) → Passes P last s₀ s → s .finished < last → s .block < P .count → s .offset + suc n ≡ P .long (s .block)
       → BlockEnd P last s₀ (s .finished) (steps P (suc n) s)

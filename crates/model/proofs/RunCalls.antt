@@ -1,21 +1,21 @@
 -- The public run: past its opening questions it is the machine's; what it leaves where nothing is carried out; and runs gone on with.
 use mathlib.Core.Path.{_≡_, refl, sym, ap, subst, _∙_}
 use mathlib.Core.Logic.{_⊎_, inl, inr}
-use mathlib.Core.Bool.{Bool, true, false}
+use mathlib.Core.Bool.{Bool, true, false, false≢true}
 use mathlib.Core.List.{List}
 use Prim.Native.Nat.{ℕ, zero, suc, _+_, _≤_, _<_}
 use native.Mathlib.Omega.{arith}
 use native.Mathlib.Nat.{zero-add, add-zero}
-use lib.Dec.{ltb, leb}
+use lib.Dec.{ltb, leb, eqb}
 use lib.ListN.{length}
 use borrow.Author.Tests.{ltb-true, lt-ltb, le-leb}
-use Rattle.model.specs.Question.{_and_, Question, numberOf, q1, q2, q3, q4, q5, q6, q7, q8, q9, q10, q11, q12, q13, q14, q15, q16, q17, q18, q19, q20, q21, q22, Refusal, Outcome, ok, refused}
+use Rattle.model.specs.Question.{_and_, _or_, Question, numberOf, q1, q2, q3, q4, q5, q6, q7, q8, q9, q10, q11, q12, q13, q14, q15, q16, q17, q18, q19, q20, q21, q22, Refusal, Outcome, ok, refused}
 use Rattle.model.specs.Table.{Routine, routineOf, codeLengthsAsk, lengthsAsk}
 use Rattle.model.specs.Machine.{State, step, halts, faults, atHalt, indexOf, Passes, here, Ran, halted, paused, faulted, runBlocks, Run, answerAt, answerOf, refusedRun, startAsk, memoryLengthAsk, runAsk, begin, opened, run}
 use Rattle.model.proofs.Logic.{byTest, true-and, ask-ok, ok-ask, passed-then, ok-then, not-ok}
 use Rattle.model.proofs.BlockSound.{Sized}
 use Rattle.model.proofs.TableLaws.{sized, memory-length}
-use Rattle.model.proofs.MachineLaws.{Placed, placed, index-below, Last, pausing, halting, faulting, blocks-last, halt-stays, resume, blocks-plus, later, laterRan, blocks-later}
+use Rattle.model.proofs.MachineLaws.{OfCode, of-7, of-8, of-9, of-18, of-22, fault-asks, Placed, placed, index-below, Last, pausing, halting, faulting, blocks-last, halt-stays, resume, blocks-plus, later, laterRan, blocks-later}
 
 -- ---- the opening questions
 
@@ -58,6 +58,10 @@ run-index blocks code memory b r k q s p =
 
 -- ---- a run that carried nothing out
 
+-- the numbers of the questions before the first instruction: Q1, Q5, Q16, Q17
+abbrev pub opening : ℕ → Bool
+opening n = eqb n 1 or (eqb n 5 or (eqb n 16 or eqb n 17))
+
 -- what a run that carried nothing out leaves
 pub record Untouched (a : Run) (r m : List ℕ) : Type 0 where
   pub registers : a .registers ≡ r
@@ -86,6 +90,49 @@ module _ (blocks code memory : List ℕ) (b : ℕ) (r : List ℕ) (k : ℕ) wher
           let O = opens blocks code memory b q in
           last-untouched _ (sized blocks code (O .lengths)) (O .exists) (run-last blocks code memory b r k O) e
       go (refused f) q e = record { registers = refl; memory = refl }
+
+  last-shows : (x : Ran) → Sized P → b < P .count → Last P k (begin b r memory) x → answerOf P x .finished ≡ 0 → answerOf P x .index ≡ P .start b → answerOf P x .carried ≡ 0
+  unfolding answerOf
+  last-shows x S h (pausing {s = s} p f z) e i = let (eb, ec) = placed P S k (begin b r memory) s h refl p .counted .0 e in omega arith
+  last-shows x S h (halting {s = s} {s' = s'} p f q) e i =
+      let c : s' .finished ≡ suc (s .finished) = ap (λ (y : State). y .finished) (halt-stays P s s' q) in absurd (omega arith)
+  last-shows x S h (faulting {s = s} p f q) e i =
+      let (eb, ec) = placed P S k (begin b r memory) s h refl p .counted .0 e in
+      let j : P .start b + s .offset ≡ P .start b = ap (λ (c : ℕ). P .start c + s .offset) (sym eb) ∙ i in
+      omega arith
+
+  -- The answer shows that nothing was carried out: no block is finished, and the place is the first instruction of the start block.
+  pub run-shows : run blocks code memory b r k .finished ≡ 0 → run blocks code memory b r k .index ≡ P .start b → run blocks code memory b r k .carried ≡ 0
+  unfolding run opened
+  run-shows e i = go (runAsk blocks code memory b) refl e i
+    where
+      go : (o : Outcome (Unit {0})) → runAsk blocks code memory b ≡ o → opened o P memory b r k .finished ≡ 0 → opened o P memory b r k .index ≡ P .start b → opened o P memory b r k .carried ≡ 0
+      go (ok u) q e i =
+          let O = opens blocks code memory b q in
+          last-shows _ (sized blocks code (O .lengths)) (O .exists) (run-last blocks code memory b r k O) e i
+      go (refused f) q e i = refl
+
+  last-opens : (x : Ran) → Last P k (begin b r memory) x → opening (answerOf P x .number) ≡ true → ⊥
+  unfolding answerOf _or_
+  last-opens x (pausing p f z) e = false≢true e
+  last-opens x (halting p f q) e = false≢true e
+  last-opens x (faulting {s = s} {q = y} p f q) e = go y (fault-asks P s s y q) e
+    where
+      go : (y : Question) → OfCode y → opening (numberOf y) ≡ true → ⊥
+      go y of-7 e = false≢true e
+      go y of-8 e = false≢true e
+      go y of-9 e = false≢true e
+      go y of-18 e = false≢true e
+      go y of-22 e = false≢true e
+
+  -- So does the number of an opening question.
+  pub run-unopened : opening (run blocks code memory b r k .number) ≡ true → run blocks code memory b r k .carried ≡ 0
+  unfolding run opened
+  run-unopened e = go (runAsk blocks code memory b) refl e
+    where
+      go : (o : Outcome (Unit {0})) → runAsk blocks code memory b ≡ o → opening (opened o P memory b r k .number) ≡ true → opened o P memory b r k .carried ≡ 0
+      go (ok u) q e = absurd (last-opens _ (run-last blocks code memory b r k (opens blocks code memory b q)) e)
+      go (refused f) q e = refl
 
   -- a run that faults ends in a state passed through, as it was before the instruction with the no
   pub record Faulted (q : Question) : Type 0 where

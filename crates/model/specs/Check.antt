@@ -107,11 +107,11 @@ module _ (𝒯 : Tables) (P : Routine) where
   readingAt b zero = ok (entry (P .annotation b))
   readingAt b (suc j) = then (readingAt b j) (λ st. readAt b j st)
 
-  -- 01: 'The type given to a load or store is the T of the Ref T that Q10 found its base to fit there'
   unfoldable pub referenceAfter : Outcome Reading → ℕ → Reference
   referenceAfter (ok st) r = referenceIn 𝒯 st r
   referenceAfter (refused q) r = Nothing
 
+  -- 01: 'The type given to a load or store is the T of the Ref T that Q10 found its base to fit there'
   unfoldable pub given : ℕ → ℕ → ℕ → Reference
   given b j r = referenceAfter (readingAt b j) r
 

@@ -6,7 +6,7 @@ use Prim.Native.Nat.{ℕ, zero, suc, _+_, _/_, _%_, _<_}
 use lib.Dec.{ltb, leb, eqb}
 use lib.ListN.{length, getD, set}
 use Rattle.model.specs.declared.RunAnswer.{RunAnswer}
-use Rattle.model.specs.Question.{_and_, pick, Question, numberOf, q7, q8, q9, q16, q17, q18, q22, Refusal, refusal, Outcome, ok, refused, ask, asked, then}
+use Rattle.model.specs.Question.{_and_, pick, Question, numberOf, q7, q8, q9, q16, q17, q18, q22, Refusal, refusal, Outcome, ok, refused, asked, then}
 use Rattle.model.specs.Word.{opcodeOf, aOf, bOf, cOf, sum, difference, product, signed, moved}
 use Rattle.model.specs.Table.{Routine, routineOf, codeLengthsAsk, lengthsAsk}
 
@@ -280,13 +280,14 @@ answerAt P n s =
       carried = s .carried;
     }
 
--- 01: '0 is halted, at the halt. 40 is paused, at the next block's first instruction'
+-- 01: '0 is halted, at the halt. 40 is paused, at the next block's first instruction'; 'A refused run returns its place .. with the
+-- blocks finished and registers so far'
 unfoldable pub answerOf : Routine → Ran → Run
 answerOf P (halted s) = answerAt P 0 s
 answerOf P (paused s) = answerAt P 40 s
 answerOf P (faulted q s) = answerAt P (numberOf q) s
 
--- 01: 'A refused run returns its place with the blocks finished and registers so far'
+-- a run refused before its first instruction
 abbrev pub refusedRun : Refusal → List ℕ → List ℕ → Run
 refusedRun r registers memory =
     record {

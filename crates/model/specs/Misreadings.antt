@@ -2,11 +2,11 @@
 -- proved in proofs/Answers.antt.
 use mathlib.Core.Path.{_≡_}
 use mathlib.Core.List.{List, [], _∷_, _++_}
-use Prim.Native.Nat.{ℕ, _+_, _*_, _^_}
+use Prim.Native.Nat.{ℕ, _^_}
 use Rattle.model.specs.Machine.{ifLess, next, enter, Run, run}
 use Rattle.model.specs.Check.{check}
 use Rattle.model.specs.MemoryCheck.{memoryCheck}
-use Rattle.model.specs.Cases.{typeWord, constantByte, anyWord, refWord, taggedWord, sameWord, runWord, inWord, instruction, haltWord, moveWord, loadWord, storeWord, jumpWord, ifEqualWord, ifLessWord, row, verdict, plotTypes, plotTags}
+use Rattle.model.specs.Cases.{typeWord, constantByte, refWord, taggedWord, sameWord, runWord, inWord, instruction, haltWord, moveWord, loadWord, storeWord, jumpWord, ifEqualWord, ifLessWord, row, verdict, plotTypes, plotTags}
 
 -- Blocks 1 to 3 of most cases: r3 is taken for a reference to a raw record where it is Tagged of tag 0 and not 0, and its second
 -- field is loaded, which a corrected record does not have.
@@ -37,7 +37,7 @@ pairTypes = row 2 0 0 0 0 0 0 0 0
 abbrev pub spanTypes : List ℕ
 spanTypes = row 1 0 0 0 0 0 0 0 0 ++ row 3 0 0 (runWord 0 0 1) 0 0 0 0 0
 
--- a block of r1 to r7 free, of any length
+-- a block of r0 to r7 free, of any length
 abbrev pub freeBlock : ℕ → List ℕ
 freeBlock n = row n 0 0 0 0 0 0 0 0
 

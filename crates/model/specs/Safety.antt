@@ -6,12 +6,12 @@ use lib.ListN.{length, getD}
 use Rattle.model.specs.declared.Reference.the-variants.{To}
 use Rattle.model.specs.Word.{sum}
 use Rattle.model.specs.Table.{Tables, tablesOf, Routine, routineOf}
-use Rattle.model.specs.Meaning.{Allocation, RecordMeets, RegistersMeet, Outside}
+use Rattle.model.specs.Meaning.{RecordMeets, RegistersMeet, Outside}
 use Rattle.model.specs.Allocation.{Allocated}
 use Rattle.model.specs.Machine.{load, store, plain, instructionAt, reg, State, halts, step, Passes, begin, Run, answerAt}
 use Rattle.model.specs.Check.{given, check}
 use Rattle.model.specs.MemoryCheck.{memoryCheck, entryCheck}
-use Rattle.model.specs.Turns.{Task, Standing, waiting, done, World, Call, turn, checking, checkingMemory, checkingEntry, running, settled, turnRun, afterCall, atStart, Allowed}
+use Rattle.model.specs.Turns.{Task, waiting, done, World, Call, turn, checking, checkingMemory, checkingEntry, running, settled, turnRun, afterCall, atStart, Allowed}
 
 -- The n routines of tasks, over a type table, a tag table, a list of allocations and a memory.
 module _ (types tags allocations memory : List ℕ) (n : ℕ) (tasks : ℕ → Task) where

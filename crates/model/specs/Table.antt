@@ -4,7 +4,7 @@ use mathlib.Core.List.{List}
 use Prim.Native.Nat.{ℕ, zero, suc, _+_, _*_, _/_, _%_}
 use lib.Dec.{ltb, leb, eqb}
 use lib.ListN.{length, getD, take, drop}
-use Rattle.model.specs.Question.{_and_, _or_, pick, every, q1, q2, q3, q4, q5, q6, refusal, Outcome, ok, ask, asked, then, firstNo}
+use Rattle.model.specs.Question.{_and_, _or_, pick, every, q1, q2, q3, q4, q5, q6, refusal, Outcome, ask, asked, then, firstNo}
 use Rattle.model.specs.Word.{kindOf, recordOf, firstOf, secondOf}
 use Rattle.model.specs.Types.{Ty, typeOf}
 
@@ -27,7 +27,7 @@ wordsOf table k = drop 1 (rowOf table k)
 
 -- ---- what is read of the type and tag tables
 
--- 01: 'field count n, then 8 type words'; 'the word at place k is the record type that tag k stands for'
+-- 01: 'field count n (1 to 8), then 8 type words'; 'the word at place k is the record type that tag k stands for'
 pub record Tables : Type 0 where
   pub count : ℕ
   pub size : ℕ → ℕ
