@@ -1,12 +1,18 @@
 -- The assumptions of Delivered can be met: what passed the definitions' checks is Passed by the answers of the definitions, and each
--- of their calls is one more in a list. In model, proofs/Example.antt has two routines that passed.
-use mathlib.Core.Path.{_≡_, refl}
+-- of their calls is one more in a list.
+use mathlib.Core.Path.{_≡_, refl, sym, ap, _∙_}
+use mathlib.Core.Bool.{true}
 use mathlib.Core.List.{List}
 use Prim.Native.Nat.{ℕ}
+use Rattle.model.specs.declared.RunAnswer.{RunAnswer}
+use Rattle.model.specs.Table.{routineOf}
 use Rattle.model.specs.Machine.{run, returned}
 use Rattle.model.specs.Turns.{Task, World, Standing, waiting, done, Call, turn, checking, checkingMemory, checkingEntry, running, standingAfter, turnRun, turned, afterCall, Allowed}
 use Rattle.model.specs.Safety.{Checked}
-use Rattle.loader.specs.Delivery.{Passed, Calls, turned as turn-made, ran}
+use Rattle.model.specs.Cases.{plotTypes, plotTags}
+use Rattle.model.proofs.RunCalls.{opening, run-unopened, run-shows}
+use Rattle.model.proofs.Example.{allocations, memory, tasks, checked}
+use Rattle.loader.specs.Delivery.{RunGave, Passed, Calls, turned as turn-made, ran}
 
 module _ (types tags allocations memory : List ℕ) (n : ℕ) (tasks : ℕ → Task) where
   pub passed : Checked types tags allocations memory n tasks → Passed types tags allocations memory n tasks
@@ -33,3 +39,15 @@ module _ (types tags allocations memory : List ℕ) (n : ℕ) (tasks : ℕ → T
   call-made (checkingMemory x y z t) w o p = p
   call-made (checkingEntry x y z t b c d r) w o p = p
   call-made (running blocks code b r budget) w o p = ran blocks code b r budget (returned (run blocks code (w .memory) b r budget)) (run blocks code (w .memory) b r budget .memory) p o (refl, refl)
+
+-- The answer of a run of other code shows that nothing was carried out: by the number of an opening question, or by its place.
+module _ (blocks code : List ℕ) (b : ℕ) (r : List ℕ) (budget : ℕ) (w : World) (a : RunAnswer) (left : List ℕ) (g : RunGave blocks code (w .memory) b r budget a left) where
+  pub allowed-by-number : opening (a .number) ≡ true → Allowed (running blocks code b r budget) w
+  allowed-by-number e = run-unopened blocks code (w .memory) b r budget (ap (λ (x : RunAnswer). opening (x .number)) (sym (g .0)) ∙ e)
+
+  pub allowed-by-place : a .finished ≡ 0 → a .index ≡ routineOf blocks code .start b → Allowed (running blocks code b r budget) w
+  allowed-by-place f i = run-shows blocks code (w .memory) b r budget (ap (λ (x : RunAnswer). x .finished) (sym (g .0)) ∙ f) (ap (λ (x : RunAnswer). x .index) (sym (g .0)) ∙ i)
+
+-- two routines over two plots have passed
+pub example-passed : Passed plotTypes plotTags allocations memory 2 tasks
+example-passed = passed plotTypes plotTags allocations memory 2 tasks checked
