@@ -49,7 +49,7 @@ pub fn start(allocations: &[u32], k: usize) -> u32
     allocations[k * ALLOCATION_WORDS]
 }
 
-// Its type.
+// The record type of allocation row k.
 pub fn record_type(allocations: &[u32], k: usize) -> u32
     requires { ⌜ k * 2 + 1 < length (now allocations) ⌝ }
     ensures { λ r. ⌜ r ≡ getD (now (allocations .entry)) (k * 2 + 1) 0 ⌝ }
