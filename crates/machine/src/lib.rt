@@ -73,26 +73,10 @@ fn run_block(
 
 // ---- a run
 
-// Words of a row of the block table.
-const ROW_WORDS: usize = 9;
-
-// The numbers of a halt, of a pause and of Q16.
+// The numbers of a halt and of a pause.
 const HALTED: u32 = 0;
 
 const PAUSED: u32 = 40;
-
-const START_BLOCK: u32 = 16;
-
-// A verdict at 0, 0.
-fn at_origin(number: u32) -> Verdict
-    ensures { λ r. ⌜ r ≡ record { number = number; first = 0; second = 0 } ⌝ }
-{
-    Verdict {
-        number,
-        first: 0,
-        second: 0,
-    }
-}
 
 // A run's answer.
 fn answer(number: u32, block: u32, index: u32, finished: u64, registers: [u32; 8]) -> RunAnswer
@@ -122,7 +106,7 @@ fn run_blocks(
     ensures { λ r. ⌜ (r ≡ returned (ranOf (now (blocks .entry)) (now (code .entry)) (now (memory .entry)) block registers budget))
         × (now (memory .exit) ≡ ranOf (now (blocks .entry)) (now (code .entry)) (now (memory .entry)) block registers budget .memory) ⌝ }
 {
-    let count = (blocks.len() / ROW_WORDS) as u32;
+    let count = (blocks.len() / table::ROW_WORDS) as u32;
     let mut b = block;
     let mut current = registers;
     let mut finished = 0;
@@ -151,7 +135,7 @@ fn run_blocks(
 }
 
 // A run refused before its first instruction.
-fn refused(v: Verdict, registers: [u32; 8]) -> RunAnswer
+fn unopened(v: Verdict, registers: [u32; 8]) -> RunAnswer
     ensures { λ r. ⌜ r ≡ record { number = v .number; block = v .first; index = v .second; finished = 0; registers = registers } ⌝ }
 {
     answer(v.number, v.first, v.second, 0, registers)
@@ -171,19 +155,19 @@ pub fn run(
 {
     let rows = table::code_lengths(blocks.len(), code.len());
     if rows.number != 0 {
-        return refused(rows, registers);
+        return unopened(rows, registers);
     }
     let mut starts = [0u32; 257];
     let lengths = table::lengths(blocks, code, &mut starts);
     if lengths.number != 0 {
-        return refused(lengths, registers);
+        return unopened(lengths, registers);
     }
-    if blocks.len() / ROW_WORDS <= block as usize {
-        return refused(at_origin(START_BLOCK), registers);
+    if blocks.len() / table::ROW_WORDS <= block as usize {
+        return unopened(table::answer::refused(table::START_BLOCK, 0), registers);
     }
     let words = layout::memory_length(memory.len());
     if words.number != 0 {
-        return refused(words, registers);
+        return unopened(words, registers);
     }
     run_blocks(blocks, code, &starts, memory, block, registers, budget)
 }

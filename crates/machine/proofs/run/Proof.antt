@@ -20,50 +20,50 @@ stops s v e z = run-refused _ _ _ _ _ _ v e z
 code-lengths-requires : tie.Need-code-lengths-requires
 code-lengths-requires c κs = tt
 
-refused-requires : tie.Need-refused-requires
-refused-requires c κs = tt
+unopened-requires : tie.Need-unopened-requires
+unopened-requires c κs = tt
 
 returns : tie.Need-returns
 returns c =
     let z = c .before .if1 .taken in
     let w = stops (c .before .before .before .before .before .before .before) _ (no-of-lengths _ _ _ _ _ (c .before .before .before .code-lengths .ensures) z) z in
-    (c .refused .ensures ∙ ap returned w, ap (λ (a : Run). a .memory) w)
+    (c .unopened .ensures ∙ ap returned w, ap (λ (a : Run). a .memory) w)
 
 lengths-requires : tie.Need-lengths-requires
 lengths-requires c κs = omega (arith, code-lengths-passed _ _ _ (c .before .before .before .code-lengths .ensures) (c .before .if1 .left))
 
-refused-requires-2 : tie.Need-refused-requires-2
-refused-requires-2 c κs = tt
+unopened-requires-2 : tie.Need-unopened-requires-2
+unopened-requires-2 c κs = tt
 
 returns-2 : tie.Need-returns-2
 returns-2 c =
     let z = c .before .if2 .taken in
     let w = stops (c .before .before .before .before .before .before .before .before .before .before .before) _ (no-of-blocks _ _ _ _ _ (c .before .before .before .before .before .before .before .code-lengths .ensures) (c .before .before .before .before .before .if1 .left) _ (c .before .before .before .lengths .ensures .0) z) z in
-    (c .refused2 .ensures ∙ ap returned w, ap (λ (a : Run). a .memory) w)
+    (c .unopened2 .ensures ∙ ap returned w, ap (λ (a : Run). a .memory) w)
 
-at-origin-requires : tie.Need-at-origin-requires
-at-origin-requires c κs = tt
+refused-requires : tie.Need-refused-requires
+refused-requires c κs = omega arith
 
-refused-requires-3 : tie.Need-refused-requires-3
-refused-requires-3 c κs = tt
+unopened-requires-3 : tie.Need-unopened-requires-3
+unopened-requires-3 c κs = tt
 
 returns-3 : tie.Need-returns-3
 returns-3 c =
-    let o = c .before .at-origin .ensures in
+    let o = c .before .refused .ensures in
     let w = stops (c .before .before .before .before .before .before .before .before .before .before .before .before .before) _ (o ∙ no-of-start _ _ _ _ _ (c .before .before .before .before .before .before .before .before .before .code-lengths .ensures) (c .before .before .before .before .before .before .before .if1 .left) _ (c .before .before .before .before .before .lengths .ensures .0) (c .before .before .before .if2 .left) (omega arith)) (λ z. omega (arith, ap (λ (v : Verdict). v .number) o)) in
-    (c .refused3 .ensures ∙ ap returned w, ap (λ (a : Run). a .memory) w)
+    (c .unopened3 .ensures ∙ ap returned w, ap (λ (a : Run). a .memory) w)
 
 memory-length-requires : tie.Need-memory-length-requires
 memory-length-requires c κs = tt
 
-refused-requires-4 : tie.Need-refused-requires-4
-refused-requires-4 c κs = tt
+unopened-requires-4 : tie.Need-unopened-requires-4
+unopened-requires-4 c κs = tt
 
 returns-4 : tie.Need-returns-4
 returns-4 c =
     let z = c .before .if4 .taken in
     let w = stops (c .before .before .before .before .before .before .before .before .before .before .before .before .before .before .before) _ (no-of-memory _ _ _ _ _ (c .before .before .before .before .before .before .before .before .before .before .before .code-lengths .ensures) (c .before .before .before .before .before .before .before .before .before .if1 .left) _ (c .before .before .before .before .before .before .before .lengths .ensures .0) (c .before .before .before .before .before .if2 .left) (omega arith) _ (c .before .before .before .memory-length .ensures) z) z in
-    (c .refused4 .ensures ∙ ap returned w, ap (λ (a : Run). a .memory) w)
+    (c .unopened4 .ensures ∙ ap returned w, ap (λ (a : Run). a .memory) w)
 
 run-blocks-requires : tie.Need-run-blocks-requires
 run-blocks-requires c κs =
@@ -85,16 +85,16 @@ run-spec =
     tie.close
     (tie.spec
     code-lengths-requires
-    refused-requires
+    unopened-requires
     returns
     lengths-requires
-    refused-requires-2
+    unopened-requires-2
     returns-2
-    at-origin-requires
-    refused-requires-3
+    refused-requires
+    unopened-requires-3
     returns-3
     memory-length-requires
-    refused-requires-4
+    unopened-requires-4
     returns-4
     run-blocks-requires
     same-length
