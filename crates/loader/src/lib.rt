@@ -1,5 +1,6 @@
 // The four public calls, each with its whole contract and no requirement: check, memory check, entry check and run.
-// specs/Delivery.antt states demand 3 of them; proofs/Delivered.antt proves it, from contracts that proofs/Contracts.antt ties to these.
+// specs/Delivery.antt states demand 3 of them, with relations that proofs/Contracts.antt shows to be these contracts; proofs/Delivered.antt
+// proves it.
 ghost use mathlib.Core.Path.{_≡_};
 ghost use Rattle.model.specs.Machine.{run, returned};
 ghost use Rattle.model.specs.Check.{check};
