@@ -12,7 +12,7 @@ use Rattle.model.specs.Turns.{Task, World, waiting, Call, turn, running, settle
 use Rattle.model.specs.Safety.{Demand3, Checked, Fit, Safe, Ends, pauses, halting}
 use Rattle.model.proofs.Safe.{demand-3}
 use Rattle.model.proofs.ChecksAgain.{memory-again, entry-again}
-use Rattle.loader.specs.Delivery.{RunGave, standing, Passed, with, Calls, none, memoryChecked, entryChecked, turned as turn-made, ran, Holds, TurnHolds, Delivers, Delivered}
+use Rattle.loader.specs.Delivery.{RunGave, standing, Passed, with, Calls, none, checked as check-made, memoryChecked, entryChecked, turned as turn-made, ran, Holds, TurnHolds, Delivers, Delivered}
 
 number-of : {v u : Verdict} → v ≡ u → u .number ≡ 0 → v .number ≡ 0
 number-of e z = ap (λ (v : Verdict). v .number) e ∙ z
@@ -44,6 +44,7 @@ module _ (types tags allocations memory : List ℕ) (n : ℕ) (tasks : ℕ → T
   all-safe : (w : World) → Made w → (calls : List Call) → Safe types tags allocations memory n tasks calls w
   unfolding Demand3 afterCall
   all-safe w none calls = demand-3 types tags allocations memory n tasks checked calls
+  all-safe w (check-made x y z t u p g) calls = all-safe w p calls
   all-safe w (memoryChecked {w = v} x y z u left p (eu, el)) calls = rw el (all-safe v p calls)
   all-safe w (entryChecked {w = v} x y z t c b r u left p (eu, el)) calls = rw el (all-safe v p calls)
   all-safe w (turn-made {w = v} i budget b r a left p e g) calls =
@@ -85,6 +86,7 @@ module _ (types tags allocations memory : List ℕ) (n : ℕ) (tasks : ℕ → T
   delivers : (w : World) (calls : Made w) → Delivers types tags allocations memory n tasks calls
   unfolding afterCall
   delivers w none = after w none
+  delivers w (check-made x y z t u p g) = delivers w p
   delivers w (memoryChecked {w = v} x y z u left p g) = (delivers v p, unchanged v left (g .1), after w (memoryChecked x y z u left p g))
   delivers w (entryChecked {w = v} x y z t c b r u left p g) = (delivers v p, unchanged v left (g .1), after w (entryChecked x y z t c b r u left p g))
   delivers w (turn-made {w = v} i budget b r a left p e g) = (delivers v p, turn-holds v p i budget b r a e (g .0), after w (turn-made i budget b r a left p e g))

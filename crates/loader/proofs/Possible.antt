@@ -7,12 +7,13 @@ use Prim.Native.Nat.{ℕ}
 use Rattle.model.specs.declared.RunAnswer.{RunAnswer}
 use Rattle.model.specs.Table.{routineOf}
 use Rattle.model.specs.Machine.{run, returned}
+use Rattle.model.specs.Check.{check}
 use Rattle.model.specs.Turns.{Task, World, Standing, waiting, done, Call, turn, checking, checkingMemory, checkingEntry, running, standingAfter, turnRun, turned, afterCall, Allowed}
 use Rattle.model.specs.Safety.{Checked}
 use Rattle.model.specs.Cases.{plotTypes, plotTags}
 use Rattle.model.proofs.RunCalls.{opening, run-unopened, run-shows}
 use Rattle.model.proofs.Example.{allocations, memory, tasks, checked}
-use Rattle.loader.specs.Delivery.{RunGave, Passed, Calls, turned as turn-made, ran}
+use Rattle.loader.specs.Delivery.{RunGave, Passed, Calls, checked as check-made, turned as turn-made, ran}
 
 module _ (types tags allocations memory : List ℕ) (n : ℕ) (tasks : ℕ → Task) where
   pub passed : Checked types tags allocations memory n tasks → Passed types tags allocations memory n tasks
@@ -35,7 +36,7 @@ module _ (types tags allocations memory : List ℕ) (n : ℕ) (tasks : ℕ → T
   pub call-made : (c : Call) (w : World) → Allowed c w → Made w → Made (afterCall tasks c w)
   unfolding afterCall
   call-made (turn i budget) w o p = turn-made-of w i budget (w .standing i) refl p
-  call-made (checking x y z t) w o p = p
+  call-made (checking x y z t) w o p = check-made x y z t (check x y z t) p refl
   call-made (checkingMemory x y z t) w o p = p
   call-made (checkingEntry x y z t b c d r) w o p = p
   call-made (running blocks code b r budget) w o p = ran blocks code b r budget (returned (run blocks code (w .memory) b r budget)) (run blocks code (w .memory) b r budget .memory) p o (refl, refl)

@@ -12,7 +12,7 @@ use Rattle.model.specs.Question.{pick, _or_}
 use Rattle.model.specs.Machine.{State, run, returned}
 use Rattle.model.specs.Check.{check}
 use Rattle.model.specs.MemoryCheck.{memoryCheck, entryCheck}
-use Rattle.model.specs.Turns.{Task, Standing, waiting, done, World, running, settled, turnRun, atStart, Allowed}
+use Rattle.model.specs.Turns.{Task, Standing, waiting, done, World, running, settled, atStart, Allowed}
 use Rattle.model.specs.Safety.{Fit, Visits, TurnSafe}
 
 -- What a call gave back for what it was handed, and what it left of the memory that it was lent: the contracts of src/lib.rt, as
@@ -46,9 +46,10 @@ module _ (types tags allocations memory : List ℕ) (n : ℕ) (tasks : ℕ → T
   with w left = record { memory = left; standing = w .standing }
 
   -- Lists of calls, and the world that each leads to. Every call is handed memory as the one before left it, and a turn its routine as
-  -- it stands; a check goes over any tables. A call that is not handed the memory leads nowhere else; the turn of a halted routine is no call.
+  -- it stands; a check goes over any tables. A call over another memory leads nowhere else; the turn of a halted routine is no call.
   pub data Calls : World → Type 0 where
     none : Calls (atStart tasks n memory)
+    checked : {w : World} (types' tags' blocks code : List ℕ) (v : Verdict) → Calls w → CheckGave types' tags' blocks code v → Calls w
     memoryChecked : {w : World} (types' tags' allocations' : List ℕ) (v : Verdict) (left : List ℕ) → Calls w
         → MemoryCheckGave types' tags' allocations' (w .memory) v left → Calls (with w left)
     entryChecked : {w : World} (types' tags' allocations' blocks code : List ℕ) (b : ℕ) (r : List ℕ) (v : Verdict) (left : List ℕ) → Calls w
@@ -74,6 +75,7 @@ module _ (types tags allocations memory : List ℕ) (n : ℕ) (tasks : ℕ → T
   -- One claim about a whole list: all holds at the start and after each call, each turn is as above, and no other call changes anything.
   abbrev pub Delivers : {w : World} → Calls w → Type 0
   Delivers none = Holds (atStart tasks n memory)
+  Delivers (checked types' tags' blocks code v p g) = Delivers p
   Delivers (memoryChecked {w = w} types' tags' allocations' v left p g) = Delivers p × (with w left ≡ w) × Holds (with w left)
   Delivers (entryChecked {w = w} types' tags' allocations' blocks code b r v left p g) = Delivers p × (with w left ≡ w) × Holds (with w left)
   Delivers (turned {w = w} i budget b r a left p e g) = Delivers p × TurnHolds w i budget b r a × Holds (settled w i left (standing a))
