@@ -14,9 +14,6 @@ ghost use Rattle.model.specs.Check.{readEdges};
 ghost use Rattle.fits.specs.Numbers.{valuesOf};
 ghost use Rattle.straight.specs.State.{reading, numbered};
 ghost use Rattle.branch.specs.End.{endOf, lastAsk};
-use instruction::HALT;
-use instruction::IF_EQUAL;
-use instruction::IF_LESS;
 use straight::NO_BASE;
 
 // Numbers of the questions asked of code.
@@ -230,12 +227,12 @@ fn edges(
         × (r ≤ 15) ⌝ }
 {
     let op = word::opcode(word);
-    if op == HALT {
+    if op == instruction::HALT {
         return 0;
     }
     let a = word::a(word);
     let c = word::c(word);
-    if op == IF_EQUAL {
+    if op == instruction::IF_EQUAL {
         return equal_edges(
             tags,
             blocks,
@@ -249,7 +246,7 @@ fn edges(
             b + 1,
         );
     }
-    if op == IF_LESS {
+    if op == instruction::IF_LESS {
         return less_edges(
             tags,
             blocks,

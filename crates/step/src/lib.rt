@@ -9,17 +9,6 @@ ghost use Rattle.model.specs.Word.{sum, signed, moved};
 ghost use Rattle.model.specs.Table.{Routine};
 ghost use Rattle.model.specs.Machine.{decode, perform};
 ghost use Rattle.step.specs.Answer.{at, does, stepOf, past, exitOf};
-use instruction::ADD;
-use instruction::CONSTANT;
-use instruction::COPY;
-use instruction::DIVIDE;
-use instruction::HALT;
-use instruction::IF_EQUAL;
-use instruction::JUMP;
-use instruction::LOAD;
-use instruction::MOVE;
-use instruction::MULTIPLY;
-use instruction::SUBTRACT;
 
 // How a block is left: to a block, by a halt, or with the number of a question that had a no.
 pub enum Exit {
@@ -97,28 +86,28 @@ pub fn effect_of(registers: &[u32; 8], w: u32) -> Effect
     let x = registers[word::b(w)];
     // The register that c numbers, for the opcodes whose c is one: read before they are told apart, which takes no branch.
     let y = registers[(c % REGISTERS) as usize];
-    if op == CONSTANT {
+    if op == instruction::CONSTANT {
         return Effect::Put(a, c);
     }
-    if op == COPY {
+    if op == instruction::COPY {
         return Effect::Put(a, x);
     }
-    if op == ADD {
+    if op == instruction::ADD {
         return Effect::Put(a, word::sum(x, y));
     }
-    if op == SUBTRACT {
+    if op == instruction::SUBTRACT {
         return Effect::Put(a, word::difference(x, y));
     }
-    if op == MULTIPLY {
+    if op == instruction::MULTIPLY {
         return Effect::Put(a, word::product(x, y));
     }
-    if op == DIVIDE {
+    if op == instruction::DIVIDE {
         return Effect::Put(a, word::quotient(x, c));
     }
-    if op == MOVE {
+    if op == instruction::MOVE {
         return Effect::Put(a, moved_by(x, c));
     }
-    if op == LOAD {
+    if op == instruction::LOAD {
         return Effect::Read(a, address(x, c));
     }
     // A store: no other opcode is left.
@@ -186,15 +175,15 @@ pub fn leave(registers: &[u32; 8], w: u32, b: u32, count: u32) -> Exit
         return Exit::No(no);
     }
     let op = word::opcode(w);
-    if op == HALT {
+    if op == instruction::HALT {
         return Exit::Halted;
     }
     let c = word::c(w);
-    if op == JUMP {
+    if op == instruction::JUMP {
         return Exit::To(c);
     }
     let x = registers[word::a(w)];
-    if op == IF_EQUAL {
+    if op == instruction::IF_EQUAL {
         if x == c / 256 {
             return Exit::To(c % 256);
         }

@@ -17,10 +17,6 @@ ghost use Rattle.model.specs.Reading.{laidAt, upFrom, steady, movedWord, look, 
 ghost use Rattle.model.specs.Check.{readPlain};
 ghost use Rattle.fits.specs.Numbers.{valuesOf};
 ghost use Rattle.straight.specs.State.{reading, numbered, plainOf, loadAsk, storeAsk, touched, earlyAsk};
-use instruction::CONSTANT;
-use instruction::COPY;
-use instruction::LOAD;
-use instruction::MOVE;
 use model::Reference;
 
 // Numbers of the questions asked of code.
@@ -380,7 +376,7 @@ fn access(
     let Reference::To(t) = fits::reference(tags, words, frames, constants, 0, 0, v) else {
         return refused(NO_REFERENCE, s);
     };
-    let loads = word::opcode(word) == LOAD;
+    let loads = word::opcode(word) == instruction::LOAD;
     touch(
         types,
         tags,
@@ -425,7 +421,7 @@ fn step(
         × (r .number ≤ 12) ⌝ }
 {
     let op = word::opcode(word);
-    if LOAD <= op {
+    if instruction::LOAD <= op {
         return access(
             types,
             tags,
@@ -443,15 +439,15 @@ fn step(
     let a = word::a(word);
     let b = word::b(word);
     let c = word::c(word);
-    if op == CONSTANT {
+    if op == instruction::CONSTANT {
         fresh(registers, words, frames, constants, a, g, 0, 0, c + 1);
         return s;
     }
-    if op == COPY {
+    if op == instruction::COPY {
         registers[a] = registers[b];
         return s;
     }
-    if op < MOVE {
+    if op < instruction::MOVE {
         fresh(registers, words, frames, constants, a, g, 0, 0, 0);
         return s;
     }

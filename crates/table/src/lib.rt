@@ -35,7 +35,7 @@ const MOST_FIELDS: u32 = 8;
 const LONGEST_BLOCK: u32 = 32;
 
 // The names in an annotation are the registers.
-pub const REGISTERS: u32 = 8;
+const REGISTERS: u32 = 8;
 
 // The numbers of the questions Q1 to Q6, and of Q16, which the entry check and a run ask of the block table.
 const LENGTHS: u32 = 1;
