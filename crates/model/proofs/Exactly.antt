@@ -11,7 +11,7 @@ use Rattle.model.specs.Question.{Refusal, refusing, Outcome, ok, refused
 use Rattle.model.specs.Table.{Tables, tablesOf, Routine, routineOf, typeLengthsAsk, codeLengthsAsk, typesAsk, lengthsAsk, annotationsAsk}
 use Rattle.model.specs.Reading.{Reading, entry}
 use Rattle.model.specs.Check.{readAt, readOn, blockAsk, judge, readingAt, checkAsk, check}
-use Rattle.model.proofs.Logic.{byEqual, then-ok, ok-then, passed-then, firstNo-ok, ok-firstNo, FirstNo, firstNo-refused, not-ok, ok-same, refused-same, verdict-ok, ok-verdict}
+use Rattle.model.proofs.Logic.{byEqual, either, then-ok, ok-then, passed-then, then-refused, firstNo-ok, ok-firstNo, FirstNo, firstNo-refused, not-ok, ok-same, refused-same, verdict-ok, ok-verdict}
 use Rattle.model.proofs.BlockSound.{Passed, passed-block}
 
 module _ (𝒯 : Tables) (P : Routine) where
@@ -125,12 +125,48 @@ check-exactly types tags blocks code = (
       ∙ judge-exactly (tablesOf types tags) (routineOf blocks code) .1 (A .instructions)),
 )
 
--- past Q6 the verdict is that of the first no
-pub check-refused : (types tags blocks code : List ℕ) (r : Refusal) → typeLengthsAsk (length types) (length tags) ≡ ok tt → codeLengthsAsk (length blocks) (length code) ≡ ok tt
-    → typesAsk (tablesOf types tags) ≡ ok tt → lengthsAsk (routineOf blocks code) ≡ ok tt → annotationsAsk (tablesOf types tags) (routineOf blocks code) ≡ ok tt
-    → checkAsk types tags blocks code ≡ refused r → FirstNoOf (tablesOf types tags) (routineOf blocks code) r × (check types tags blocks code ≡ refusing r)
-unfolding check checkAsk verdictOf
-check-refused types tags blocks code r a c t l s q =
-    let judged : judge (tablesOf types tags) (routineOf blocks code) ≡ refused r =
-    sym (ok-then _ _ tt a ∙ ok-then _ _ tt c ∙ ok-then _ _ tt t ∙ ok-then _ _ tt l ∙ ok-then _ _ tt s) ∙ q in
-    (judge-refused (tablesOf types tags) (routineOf blocks code) r judged, rw q)
+module _ (types tags blocks code : List ℕ) where
+  -- the questions of the tables, in order: Q1, Q2 to Q4, Q5, Q6
+  abbrev typeLengths : Outcome (Unit {0})
+  typeLengths = typeLengthsAsk (length types) (length tags)
+
+  abbrev codeLengths : Outcome (Unit {0})
+  codeLengths = codeLengthsAsk (length blocks) (length code)
+
+  abbrev typeRows : Outcome (Unit {0})
+  typeRows = typesAsk (tablesOf types tags)
+
+  abbrev blockLengths : Outcome (Unit {0})
+  blockLengths = lengthsAsk (routineOf blocks code)
+
+  abbrev annotations : Outcome (Unit {0})
+  annotations = annotationsAsk (tablesOf types tags) (routineOf blocks code)
+
+  -- the first no, and none before it
+  pub data First (r : Refusal) : Type 0 where
+    typeLengthsNo : typeLengths ≡ refused r → First r
+    codeLengthsNo : typeLengths ≡ ok tt → codeLengths ≡ refused r → First r
+    typeRowsNo : typeLengths ≡ ok tt → codeLengths ≡ ok tt → typeRows ≡ refused r → First r
+    blockLengthsNo : typeLengths ≡ ok tt → codeLengths ≡ ok tt → typeRows ≡ ok tt → blockLengths ≡ refused r → First r
+    annotationsNo : typeLengths ≡ ok tt → codeLengths ≡ ok tt → typeRows ≡ ok tt → blockLengths ≡ ok tt → annotations ≡ refused r → First r
+    instructionNo : typeLengths ≡ ok tt → codeLengths ≡ ok tt → typeRows ≡ ok tt → blockLengths ≡ ok tt → annotations ≡ ok tt
+        → FirstNoOf (tablesOf types tags) (routineOf blocks code) r → First r
+
+  first-of : (r : Refusal) → checkAsk types tags blocks code ≡ refused r → First r
+  unfolding checkAsk
+  first-of r e =
+      either (then-refused _ _ r e) typeLengthsNo (λ (a, e).
+      either (then-refused _ _ r e) (codeLengthsNo a) (λ (c, e).
+      either (then-refused _ _ r e) (typeRowsNo a c) (λ (t, e).
+      either (then-refused _ _ r e) (blockLengthsNo a c t) (λ (l, e).
+      either (then-refused _ _ r e) (annotationsNo a c t l) (λ (s, e).
+      instructionNo a c t l s (judge-refused (tablesOf types tags) (routineOf blocks code) r e))))))
+
+  -- a check that does not give 0 names the first question with a no, and its place
+  pub check-refused : (check types tags blocks code .number ≡ 0 → ⊥) → (r : Refusal) × (check types tags blocks code ≡ refusing r) × First r
+  unfolding check verdictOf
+  check-refused z = go (checkAsk types tags blocks code) refl z
+    where
+      go : (o : Outcome (Unit {0})) → checkAsk types tags blocks code ≡ o → (verdictOf o .number ≡ 0 → ⊥) → (r : Refusal) × (verdictOf (checkAsk types tags blocks code) ≡ refusing r) × First r
+      go (ok u) q z = absurd (z refl)
+      go (refused r) q z = (r, rw q refl, first-of r q)

@@ -119,6 +119,12 @@ unfolding then
 passed-then (ok u) k e = (refl, e)
 passed-then (refused r) k e = absurd (not-ok e)
 
+-- a refusal is that of the first row of questions, or comes after it has passed
+pub then-refused : {B : Type 0} (o : Outcome (Unit {0})) (k : Unit {0} → Outcome B) (r : Refusal) → then o k ≡ refused r → (o ≡ refused r) ⊎ ((o ≡ ok tt) × (k tt ≡ refused r))
+unfolding then
+then-refused (ok u) k r e = inr (refl, e)
+then-refused (refused s) k r e = inl (ap {B = Outcome (Unit {0})} refused (refused-same e))
+
 pub firstNo-ok : (n i : ℕ) (f : ℕ → Outcome (Unit {0})) → firstNo n i f ≡ ok tt → (j : ℕ) → i ≤ j → j < i + n → f j ≡ ok tt
 unfolding firstNo
 firstNo-ok zero i f e j lo hi = absurd (omega arith)
