@@ -8,6 +8,11 @@
  * Each call returns the number of the first question with a no, and 0 where there is none; docs/REFUSALS.md has the numbers.
  * What each call promises is proved of the code behind it: the answer is the one that the definitions in crates/model/specs
  * give for the words handed in.
+ *
+ * Together they promise this. Let memory, every routine and every routine's start block and registers have passed their checks
+ * over the same types, tags and allocations. Then run the routines in any turns with any budgets, each from its start or from what
+ * its own last turn returned, while nobody else writes memory. Every turn returns 0 or 40, touches only fields of allocated
+ * records, and leaves all records and registers in type after every block.
  */
 #ifndef RAMDULSI_H
 #define RAMDULSI_H
