@@ -181,35 +181,36 @@ number-unless n d =
 
 -- ---- verdicts
 
-number-positive : (q : Question) → 1 ≤ numberOf q
-number-positive q1 = omega arith
-number-positive q2 = omega arith
-number-positive q3 = omega arith
-number-positive q4 = omega arith
-number-positive q5 = omega arith
-number-positive q6 = omega arith
-number-positive q7 = omega arith
-number-positive q8 = omega arith
-number-positive q9 = omega arith
-number-positive q10 = omega arith
-number-positive q11 = omega arith
-number-positive q12 = omega arith
-number-positive q13 = omega arith
-number-positive q14 = omega arith
-number-positive q15 = omega arith
-number-positive q16 = omega arith
-number-positive q17 = omega arith
-number-positive q18 = omega arith
-number-positive q19 = omega arith
-number-positive q20 = omega arith
-number-positive q21 = omega arith
-number-positive q22 = omega arith
+-- questions are numbered from 1 to 22
+pub number-bounds : (q : Question) → (1 ≤ numberOf q) × (numberOf q ≤ 22)
+number-bounds q1 = (omega arith, omega arith)
+number-bounds q2 = (omega arith, omega arith)
+number-bounds q3 = (omega arith, omega arith)
+number-bounds q4 = (omega arith, omega arith)
+number-bounds q5 = (omega arith, omega arith)
+number-bounds q6 = (omega arith, omega arith)
+number-bounds q7 = (omega arith, omega arith)
+number-bounds q8 = (omega arith, omega arith)
+number-bounds q9 = (omega arith, omega arith)
+number-bounds q10 = (omega arith, omega arith)
+number-bounds q11 = (omega arith, omega arith)
+number-bounds q12 = (omega arith, omega arith)
+number-bounds q13 = (omega arith, omega arith)
+number-bounds q14 = (omega arith, omega arith)
+number-bounds q15 = (omega arith, omega arith)
+number-bounds q16 = (omega arith, omega arith)
+number-bounds q17 = (omega arith, omega arith)
+number-bounds q18 = (omega arith, omega arith)
+number-bounds q19 = (omega arith, omega arith)
+number-bounds q20 = (omega arith, omega arith)
+number-bounds q21 = (omega arith, omega arith)
+number-bounds q22 = (omega arith, omega arith)
 
 -- the number 0 means that no question had a no
 pub verdict-ok : (o : Outcome (Unit {0})) → verdictOf o .number ≡ 0 → o ≡ ok tt
 unfolding verdictOf
 verdict-ok (ok u) e = refl
-verdict-ok (refused r) e = absurd (omega (arith, number-positive (r .question)))
+verdict-ok (refused r) e = absurd (omega (arith, number-bounds (r .question) .0))
 
 pub ok-verdict : (o : Outcome (Unit {0})) → o ≡ ok tt → verdictOf o .number ≡ 0
 unfolding verdictOf

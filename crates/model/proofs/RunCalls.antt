@@ -9,10 +9,10 @@ use native.Mathlib.Nat.{zero-add, add-zero}
 use lib.Dec.{ltb, leb, eqb}
 use lib.ListN.{length}
 use borrow.Author.Tests.{ltb-true, lt-ltb, le-leb}
-use Rattle.model.specs.Question.{_and_, _or_, Question, numberOf, q1, q2, q3, q4, q5, q6, q7, q8, q9, q10, q11, q12, q13, q14, q15, q16, q17, q18, q19, q20, q21, q22, Refusal, Outcome, ok, refused}
+use Rattle.model.specs.Question.{_and_, _or_, Question, numberOf, Refusal, Outcome, ok, refused}
 use Rattle.model.specs.Table.{Routine, routineOf, codeLengthsAsk, lengthsAsk}
 use Rattle.model.specs.Machine.{State, step, halts, faults, atHalt, indexOf, Passes, here, Ran, halted, paused, faulted, runBlocks, Run, answerAt, answerOf, refusedRun, startAsk, memoryLengthAsk, runAsk, begin, opened, run}
-use Rattle.model.proofs.Logic.{byTest, true-and, ask-ok, ok-ask, passed-then, ok-then, not-ok}
+use Rattle.model.proofs.Logic.{byTest, number-bounds, true-and, ask-ok, ok-ask, passed-then, ok-then, not-ok}
 use Rattle.model.proofs.BlockSound.{Sized}
 use Rattle.model.proofs.TableLaws.{sized, memory-length}
 use Rattle.model.proofs.MachineLaws.{OfCode, of-7, of-8, of-9, of-18, of-22, fault-asks, Placed, placed, index-below, Last, pausing, halting, faulting, blocks-last, halt-stays, resume, blocks-plus, later, laterRan, blocks-later}
@@ -171,28 +171,7 @@ gone a c =
     }
 
 not-forty : (q : Question) → numberOf q ≡ 40 → ⊥
-not-forty q1 e = omega arith
-not-forty q2 e = omega arith
-not-forty q3 e = omega arith
-not-forty q4 e = omega arith
-not-forty q5 e = omega arith
-not-forty q6 e = omega arith
-not-forty q7 e = omega arith
-not-forty q8 e = omega arith
-not-forty q9 e = omega arith
-not-forty q10 e = omega arith
-not-forty q11 e = omega arith
-not-forty q12 e = omega arith
-not-forty q13 e = omega arith
-not-forty q14 e = omega arith
-not-forty q15 e = omega arith
-not-forty q16 e = omega arith
-not-forty q17 e = omega arith
-not-forty q18 e = omega arith
-not-forty q19 e = omega arith
-not-forty q20 e = omega arith
-not-forty q21 e = omega arith
-not-forty q22 e = omega arith
+not-forty q e = omega (arith, number-bounds q .1)
 
 answer-later : (P : Routine) (s : State) (x : Ran) → answerOf P (laterRan (s .finished) (s .carried) x) ≡ gone (answerAt P 40 s) (answerOf P x)
 unfolding answerOf laterRan
