@@ -1,6 +1,7 @@
 -- The relations of specs/Delivery.antt are the contracts of src/lib.rt: each call asks nothing of its caller, and its caller learns just the
 -- relation, with what the call left of the memory that it was lent. Tables come back as they were lent.
 use mathlib.Core.Path.{_≡_, refl}
+use mathlib.Core.Logic.{_↔_}
 use mathlib.Core.List.{List}
 use Prim.Native.Nat.{ℕ}
 use contract.Lifetimes.{Lfts}
@@ -23,9 +24,6 @@ use Rattle.loader.proofs.run.Reads as run-read
 abbrev Lent : Type 0
 Lent = RefT (List ℕ)
 
-abbrev Just : Type 0 → Type 0 → Type 0
-Just A B = (A → B) × (B → A)
-
 module _ (κs : Lfts 4) (types tags blocks code : Lent) where
   abbrev to-check : Args check.signature κs
   to-check = (types, (tags, (blocks, (code, tt))))
@@ -34,7 +32,7 @@ module _ (κs : Lfts 4) (types tags blocks code : Lent) where
   check-asks = refl
 
   pub check-gives : (v : Verdict) (last : Lasts check.ended κs to-check)
-      → Just (check-read.Learnt κs to-check v (atExit check.ended κs to-check last)) (CheckGave (now types) (now tags) (now blocks) (now code) v)
+      → check-read.Learnt κs to-check v (atExit check.ended κs to-check last) ↔ CheckGave (now types) (now tags) (now blocks) (now code) v
   check-gives v last = (λ l. l, λ g. g)
 
   pub check-lent : (last : Lasts check.ended κs to-check) → atExit check.ended κs to-check last ≡ to-check
@@ -48,8 +46,8 @@ module _ (κs : Lfts 4) (types tags allocations memory : Lent) where
   memory-check-asks = refl
 
   pub memory-check-gives : (v : Verdict) (last : Lasts memory_check.ended κs to-memory-check)
-      → Just (memory-check-read.Learnt κs to-memory-check v (atExit memory_check.ended κs to-memory-check last))
-      (MemoryCheckGave (now types) (now tags) (now allocations) (now memory) v (now (atExit memory_check.ended κs to-memory-check last .1 .1 .1 .0)))
+      → memory-check-read.Learnt κs to-memory-check v (atExit memory_check.ended κs to-memory-check last)
+      ↔ MemoryCheckGave (now types) (now tags) (now allocations) (now memory) v (now (atExit memory_check.ended κs to-memory-check last .1 .1 .1 .0))
   memory-check-gives v last = (λ l. (l, refl), λ g. g .0)
 
   pub memory-check-lent : (last : Lasts memory_check.ended κs to-memory-check) → atExit memory_check.ended κs to-memory-check last ≡ to-memory-check
@@ -63,8 +61,8 @@ module _ (κs : Lfts 6) (types tags allocations memory blocks code : Lent) (b : 
   entry-check-asks = refl
 
   pub entry-check-gives : (v : Verdict) (last : Lasts entry_check.ended κs to-entry-check)
-      → Just (entry-check-read.Learnt κs to-entry-check v (atExit entry_check.ended κs to-entry-check last))
-      (EntryCheckGave (now types) (now tags) (now allocations) (now memory) (now blocks) (now code) b r v (now (atExit entry_check.ended κs to-entry-check last .1 .1 .1 .0)))
+      → entry-check-read.Learnt κs to-entry-check v (atExit entry_check.ended κs to-entry-check last)
+      ↔ EntryCheckGave (now types) (now tags) (now allocations) (now memory) (now blocks) (now code) b r v (now (atExit entry_check.ended κs to-entry-check last .1 .1 .1 .0))
   entry-check-gives v last = (λ l. (l, refl), λ g. g .0)
 
   pub entry-check-lent : (last : Lasts entry_check.ended κs to-entry-check) → atExit entry_check.ended κs to-entry-check last ≡ to-entry-check
@@ -78,7 +76,7 @@ module _ (κs : Lfts 3) (blocks code memory : Lent) (b : ℕ) (r : List ℕ) (bu
   run-asks = refl
 
   pub run-gives : (a : RunAnswer) (last : Lasts run.ended κs to-run)
-      → Just (run-read.Learnt κs to-run a (atExit run.ended κs to-run last)) (RunGave (now blocks) (now code) (now memory) b r budget a (now (atExit run.ended κs to-run last .1 .1 .0)))
+      → run-read.Learnt κs to-run a (atExit run.ended κs to-run last) ↔ RunGave (now blocks) (now code) (now memory) b r budget a (now (atExit run.ended κs to-run last .1 .1 .0))
   run-gives a last = (λ l. l, λ g. g)
 
   pub run-lent : (last : Lasts run.ended κs to-run) → (atExit run.ended κs to-run last .0 ≡ blocks) × (atExit run.ended κs to-run last .1 .0 ≡ code)

@@ -77,8 +77,8 @@ module _ (types tags allocations memory : List ℕ) (n : ℕ) (tasks : ℕ → T
         blockEnds = λ s v z. holds _ (T .blockEnds s v z);
       }
 
-  unchanged : (w : World) (left : List ℕ) → left ≡ w .memory → with types tags allocations memory n tasks w left ≡ w
-  unchanged w left e = ap (λ (m : List ℕ). with types tags allocations memory n tasks w m) e
+  unchanged : (w : World) (left : List ℕ) → left ≡ w .memory → with w left ≡ w
+  unchanged w left e = ap (λ (m : List ℕ). with w m) e
 
   after : (w : World) → Made w → AllHolds w
   after w p = holds w (all-safe w p [])

@@ -1,5 +1,5 @@
--- The assumptions of Delivered can be met: what passed the definitions' checks is Passed by the answers of the definitions, and each
--- of their calls is one more in a list.
+-- The assumptions of Delivered can be met: what passed the definitions' checks is Passed by the answers of the definitions, and
+-- wherever one of their calls leads, a list of calls leads too.
 use mathlib.Core.Path.{_≡_, refl, sym, ap, _∙_}
 use mathlib.Core.Bool.{true}
 use mathlib.Core.List.{List}

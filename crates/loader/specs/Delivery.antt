@@ -33,6 +33,9 @@ RunGave blocks code memory b r budget a left = (a ≡ returned (run blocks code 
 abbrev pub standing : RunAnswer → Standing
 standing a = pick (eqb (a .number) 0) done (waiting (a .block) (a .registers))
 
+abbrev pub with : World → List ℕ → World
+with w left = record { memory = left; standing = w .standing }
+
 module _ (types tags allocations memory : List ℕ) (n : ℕ) (tasks : ℕ → Task) where
   -- The checks gave 0: of memory, of each routine, and of its eight registers over some memory with these allocations.
   pub record Passed : Type 0 where
@@ -41,9 +44,6 @@ module _ (types tags allocations memory : List ℕ) (n : ℕ) (tasks : ℕ → T
     pub eight : (i : ℕ) → i < n → length (tasks i .registers) ≡ 8
     pub entered : (i : ℕ) → i < n
         → (m : List ℕ) × (v : Verdict) × (left : List ℕ) × EntryCheckGave types tags allocations m (tasks i .blocks) (tasks i .code) (tasks i .start) (tasks i .registers) v left × (v .number ≡ 0)
-
-  abbrev pub with : World → List ℕ → World
-  with w left = record { memory = left; standing = w .standing }
 
   -- Lists of calls, and the world that each leads to. Every call is handed memory as the one before left it, and a turn its routine as
   -- it stands; a check goes over any tables. A call over another memory leads nowhere else; the turn of a halted routine is no call.
