@@ -1,26 +1,29 @@
 -- One law for each way out of a function.
-use mathlib.Core.Path.{_≡_, refl, sym, ap, _∙_}
+use mathlib.Core.Path.{_≡_, refl, sym, _∙_}
 use mathlib.Core.Logic.{_⊎_, inl, inr}
-use mathlib.Core.Bool.{Bool, true, false}
-use mathlib.Core.List.{List, [], _∷_, _++_, append-assoc, append-nil}
-use Prim.Native.Nat.{ℕ, zero, suc, _+_, _-_, _*_, _/_, _%_, _<_, _≤_}
+use mathlib.Core.Bool.{Bool, true, false, false≢true}
+use mathlib.Core.List.{List, [], _++_, append-nil}
+use Prim.Native.Nat.{ℕ, zero, suc, _+_, _-_, _/_, _<_, _≤_}
 use native.Mathlib.Nat.{sub-zero}
 use native.Mathlib.Omega.{arith}
-use lib.Dec.{ltb, leb, eqb}
+use lib.Dec.{eqb, leb}
 use lib.ListN.{length, getD}
-use borrow.Author.Tests.{lt-ltb, le-ltb, le-leb, lt-leb, eq-eqb, ne-eqb}
-use Rattle.model.specs.Question.{_and_, _or_, pick, every}
+use borrow.Author.Tests.{lt-ltb, le-ltb, le-leb, lt-leb, eq-eqb, ne-eqb, eqb-true, eqb-false}
+use Rattle.model.specs.Question.{_and_, _or_, every}
 use Rattle.model.specs.Word.{kindOf, recordOf, firstOf, secondOf}
-use Rattle.model.specs.Types.{Dep, name, con, depOf, renameDep, Ty, any, ref, maybe, tagged, present, same, span, typeOf, rename}
+use Rattle.model.specs.Types.{Dep, depOf, renameDep, typeOf, rename}
 use Rattle.model.specs.declared.Reference.{Reference}
 use Rattle.model.specs.declared.Reference.the-variants.{To, Nothing}
 use Rattle.model.specs.Table.{Tables, tablesOf}
-use Rattle.model.specs.Reading.{Values, birthplace, typed, held, sameConstant, constantsOf, some, sameDep, isSame, saysSame, knownEqual}
-use Rattle.model.specs.Reading.{tagOf, beyond, knownTag, knownZero, isRef, isMaybe, isTagged, isPresent, isSpan, fits, rowFits, firstTag, referenceOf}
-use Rattle.model.proofs.Logic.{byTest, byEqual, byLess}
-use Rattle.fits.specs.declared.Constants.{Constants}
-use Rattle.fits.specs.Numbers.{frameOf, framesOf, valuesOf, depAt, siblingOf, namedOf, meant, listed, contained, shared, placeFits, tagOrBeyond}
-use Rattle.fits.proofs.Numbers.{some-none, some-one, some-born, some-same, some-told, dep-name, dep-constant, same-numbers, type-any, type-ref, type-maybe, type-tagged, type-present, type-same, type-span, byKind}
+use Rattle.model.specs.Reading.{Values, birthplace, typed, held, sameConstant, constantsOf, some, isSame, saysSame, knownEqual}
+use Rattle.model.specs.Reading.{tagOf, beyond, knownTag, knownZero, isRef, isMaybe, isTagged, isPresent, isSpan, fits, rowFits}
+use Rattle.model.specs.Reading.{firstTag, referenceOf}
+use Rattle.model.proofs.Logic.{byTest, byEqual, either, or-true, or-of-true, true-or}
+use Rattle.fits.specs.Numbers.{framesOf, valuesOf, depAt, siblingOf, namedOf, meant, testedConstant, oneConstant, sharedConstant}
+use Rattle.fits.specs.Numbers.{tagOrBeyond, byRecord, byOwnTag, tagFits, placeFits}
+use Rattle.fits.proofs.Numbers.{some-none, some-one, some-first, some-second, or-false, held-is, one-none, one-of-none, shared-parts}
+use Rattle.fits.proofs.Numbers.{tested-nothing, tested-one, pick-same, constants-are, dep-name, dep-constant, same-numbers}
+use Rattle.fits.proofs.Numbers.{type-any, type-ref, type-maybe, type-tagged, type-present, type-same, type-span, byKind}
 
 -- ---- known constants
 
@@ -36,69 +39,119 @@ module _ (w : ℕ) (σ : ℕ → ℕ) where
   pub constant-same : kindOf w ≡ 5 → (x : ℕ) → x ≡ firstOf w → 8 ≤ x → held (x - 7) ≡ sameConstant (rename σ (typeOf w))
   constant-same e x ex h = let z : x - 7 ≡ suc (x - 8) = omega arith in rw (type-same σ w e, ← ex, le-ltb x 8 h, z)
 
-abbrev pub three : ℕ → ℕ → ℕ → Constants
-three b s t = record { born = b; same = s; told = t }
+-- the constant of x where nothing was tested
+module _ (words frames constants : List ℕ) (x : ℕ) where
+  abbrev untested : Values
+  untested = valuesOf words frames constants 0 0
 
-module _ (words frames constants : List ℕ) (tested equal x : ℕ) where
-  abbrev vs : Values
-  vs = valuesOf words frames constants tested equal
+  pub constant-itself : 256 ≤ x → held (x - 255) ≡ constantsOf untested (depAt x)
+  unfolding constantsOf
+  constant-itself h = let z : x - 255 ≡ suc (x - 256) = omega arith in rw (dep-constant x h, z)
 
-  pub constants-constant : 256 ≤ x → listed (three (x - 255) 0 0) ≡ constantsOf vs (depAt x)
-  unfolding constantsOf listed
-  constants-constant h = let z : x - 255 ≡ suc (x - 256) = omega arith in rw (dep-constant x h, z)
+  abbrev frame : ℕ → ℕ
+  frame = λ i. getD (framesOf frames) (birthplace x) 0 + i
 
-  module _ (h : x < 256) (s : ℕ) (es : (σ : ℕ → ℕ) → held s ≡ sameConstant (rename σ (typeOf (getD words x 0)))) where
-    pub constants-tested : x ≡ tested → listed (three (getD constants (x / 8) 0) s equal) ≡ constantsOf vs (depAt x)
-    unfolding constantsOf listed typed
-    constants-tested e = rw (dep-name x h, eq-eqb x tested e, es (λ i. getD (framesOf frames) (birthplace x) 0 + i))
+  module _ (h : x < 256) where
+    pub constant-any : getD words x 0 ≡ 0 → held (getD constants (x / 8) 0) ≡ constantsOf untested (depAt x)
+    unfolding constantsOf typed
+    constant-any e =
+        let k = held (getD constants (x / 8) 0) in
+        rw (dep-name x h, eq-eqb (getD words x 0) 0 e, type-any frame (getD words x 0) (rw e), pick-same (eqb x 0) 0)
+        (sym (append-nil (k ++ []) ∙ append-nil k))
 
-    pub constants-untested : (x ≡ tested → ⊥) → listed (three (getD constants (x / 8) 0) s 0) ≡ constantsOf vs (depAt x)
-    unfolding constantsOf listed typed
-    constants-untested e = rw (dep-name x h, ne-eqb x tested e, es (λ i. getD (framesOf frames) (birthplace x) 0 + i))
+    pub constant-typed : (getD words x 0 ≡ 0 → ⊥) → (s : ℕ)
+        → ((σ : ℕ → ℕ) → held s ≡ sameConstant (rename σ (typeOf (getD words x 0)))) → held s ≡ constantsOf untested (depAt x)
+    unfolding constantsOf typed
+    constant-typed n s es = rw (dep-name x h, ne-eqb (getD words x 0) 0 n, ← es frame) (simp (pick-same, append-nil))
 
 -- ---- known equal
 
-module _ (words frames constants : List ℕ) (tested equal x y : ℕ) where
-  abbrev us : Values
-  us = valuesOf words frames constants tested equal
+-- k and l are the constants of x and y, which are not one
+module _ (words frames constants : List ℕ) (tested equal x y : ℕ) (n : x ≡ y → ⊥) (k l : ℕ)
+    (ek : held k ≡ constantsOf (valuesOf words frames constants 0 0) (depAt x))
+    (el : held l ≡ constantsOf (valuesOf words frames constants 0 0) (depAt y)) where
+  abbrev share : Bool
+  share = sharedConstant (valuesOf words frames constants tested equal) (depAt x) (depAt y)
 
-  pub says-constant : 256 ≤ x → false ≡ saysSame us (depAt x) (depAt y)
+  abbrev told-x : ℕ
+  told-x = testedConstant tested equal (depAt x)
+
+  abbrev told-y : ℕ
+  told-y = testedConstant tested equal (depAt y)
+
+  parts : share ≡ (oneConstant k l or oneConstant k told-y) or oneConstant told-x l
+  parts =
+      shared-parts _ _ _ k l told-x told-y (constants-are words frames constants tested equal x k ek)
+      (constants-are words frames constants tested equal y l el)
+      ∙ rw (tested-one tested equal x y n, or-false (oneConstant told-x l))
+
+  pub share-one : oneConstant k l ≡ true → true ≡ share
+  unfolding _or_
+  share-one h = sym (parts ∙ rw h)
+
+  module _ (o : oneConstant k l ≡ false) where
+    pub share-untested : equal ≡ 0 → false ≡ share
+    unfolding _or_
+    share-untested z =
+        sym (parts ∙ rw (o, tested-nothing tested equal x z, tested-nothing tested equal y z, one-of-none k, ← one-none 0 l refl))
+
+    -- s is the constant that a test gave x
+    module _ (s : ℕ) (es : s ≡ told-x) where
+      pub share-left : oneConstant s l ≡ true → true ≡ share
+      share-left h = sym (parts ∙ or-of-true _ _ (rw es at h))
+
+      pub share-right : oneConstant s l ≡ false → (t : ℕ) → t ≡ told-y → (b : Bool) → b ≡ oneConstant k t → b ≡ share
+      unfolding _or_
+      share-right h t et b eb = rw et at eb ∙ sym (parts ∙ rw (o, ← es, h, or-false (oneConstant k told-y)))
+
+-- x has type Same of y
+module _ (vs : Values) (x y : ℕ) where
+  abbrev frame-of : ℕ → ℕ
+  frame-of = λ i. getD (vs .frames) (birthplace x) 0 + i
+
+  abbrev word-of : ℕ
+  word-of = getD (vs .words) x 0
+
+  pub says-constant : 256 ≤ x → false ≡ saysSame vs (depAt x) (depAt y)
   unfolding saysSame
   says-constant h = rw (dep-constant x h)
 
-  pub says-other : x < 256 → (kindOf (getD words x 0) ≡ 5 → ⊥) → false ≡ saysSame us (depAt x) (depAt y)
+  pub says-other : x < 256 → (kindOf word-of ≡ 5 → ⊥) → false ≡ saysSame vs (depAt x) (depAt y)
   unfolding saysSame typed isSame
   says-other h n =
-      let σ : ℕ → ℕ = λ i. getD (framesOf frames) (birthplace x) 0 + i in
-      let w = getD words x 0 in
+      let w = word-of in
+      let σ : ℕ → ℕ = frame-of in
       rw (dep-name x h)
       (byKind (kindOf w) (λ e. rw (type-any σ w e)) (λ e. rw (type-ref σ w e)) (λ e. rw (type-maybe σ w e)) (λ e. rw (type-tagged σ w e))
       (λ e. rw (type-present σ w e)) (λ e. absurd (n e)) (λ k e. rw (type-span σ w k e)))
 
-  pub says-same : x < 256 → kindOf (getD words x 0) ≡ 5 → (p d : ℕ) → p ≡ firstOf (getD words x 0)
-      → depAt d ≡ siblingOf (getD (framesOf frames) (birthplace x) 0) p → eqb d y ≡ saysSame us (depAt x) (depAt y)
+  pub says-same : x < 256 → kindOf word-of ≡ 5 → (p d : ℕ) → p ≡ firstOf word-of
+      → depAt d ≡ siblingOf (getD (vs .frames) (birthplace x) 0) p → eqb d y ≡ saysSame vs (depAt x) (depAt y)
   unfolding saysSame typed isSame siblingOf
-  says-same h k p d ep ed =
-      rw (dep-name x h, type-same (λ i. getD (framesOf frames) (birthplace x) 0 + i) (getD words x 0) k, ← ep, ← ed) (sym (same-numbers d y))
+  says-same h k p d ep ed = rw (dep-name x h, type-same frame-of word-of k, ← ep, ← ed) (sym (same-numbers d y))
 
-module _ (vs : Values) (x y : ℕ) where
   pub equal-one : x ≡ y → true ≡ knownEqual vs (depAt x) (depAt y)
   unfolding knownEqual _or_
   equal-one e = rw (same-numbers x y, eq-eqb x y e)
 
-  module _ (n : x ≡ y → ⊥) (k l : Constants) (ek : listed k ≡ constantsOf vs (depAt x)) (el : listed l ≡ constantsOf vs (depAt y)) where
-    pub equal-shared : shared k l ≡ true → true ≡ knownEqual vs (depAt x) (depAt y)
-    unfolding knownEqual _or_ shared
-    equal-shared h = rw (same-numbers x y, ne-eqb x y n, ← ek, ← el, h)
+  module _ (n : x ≡ y → ⊥) where
+    rest : knownEqual vs (depAt x) (depAt y)
+        ≡ sharedConstant vs (depAt x) (depAt y) or saysSame vs (depAt x) (depAt y) or saysSame vs (depAt y) (depAt x)
+    unfolding knownEqual sharedConstant _or_
+    rest = rw (same-numbers x y, ne-eqb x y n)
 
-    module _ (s : shared k l ≡ false) where
+    pub equal-shared : sharedConstant vs (depAt x) (depAt y) ≡ true → true ≡ knownEqual vs (depAt x) (depAt y)
+    equal-shared h = sym (rest ∙ true-or _ _ h)
+
+    module _ (g : sharedConstant vs (depAt x) (depAt y) ≡ false) where
       pub equal-left : saysSame vs (depAt x) (depAt y) ≡ true → true ≡ knownEqual vs (depAt x) (depAt y)
-      unfolding knownEqual _or_ shared
-      equal-left h = rw (same-numbers x y, ne-eqb x y n, ← ek, ← el, s, h)
+      unfolding _or_
+      equal-left h = sym (rest ∙ rw (g, h))
 
-      pub equal-right : saysSame vs (depAt x) (depAt y) ≡ false → (b : Bool) → b ≡ saysSame vs (depAt y) (depAt x) → b ≡ knownEqual vs (depAt x) (depAt y)
-      unfolding knownEqual _or_ shared
-      equal-right h b eb = rw (same-numbers x y, ne-eqb x y n, ← ek, ← el, s, h, ← eb)
+      pub equal-right : saysSame vs (depAt x) (depAt y) ≡ false → (b : Bool) → b ≡ saysSame vs (depAt y) (depAt x)
+          → b ≡ knownEqual vs (depAt x) (depAt y)
+      unfolding _or_
+      equal-right h b eb = eb ∙ sym (rest ∙ rw (g, h))
 
 -- ---- tags
 
@@ -122,258 +175,296 @@ module _ (types tags : List ℕ) (n t : ℕ) where
 
   pub beyond-past : (n ≡ 0 → ⊥) → length tags ≤ n - 1 → true ≡ some (tagOrBeyond 𝒯 t) (held n)
   unfolding tagOf beyond tablesOf _and_ _or_
-  beyond-past h l = sym (some-one (tagOrBeyond 𝒯 t) n (omega arith) ∙ rw (le-ltb (n - 1) (length tags) l, le-leb (length tags) (n - 1) l))
+  beyond-past h l =
+      sym (some-one (tagOrBeyond 𝒯 t) n (omega arith) ∙ rw (le-ltb (n - 1) (length tags) l, le-leb (length tags) (n - 1) l))
 
   pub beyond-is : (n ≡ 0 → ⊥) → n - 1 < length tags → eqb (getD tags (n - 1) 0) t ≡ some (tagOrBeyond 𝒯 t) (held n)
-  unfolding tagOf beyond tablesOf _and_ _or_
+  unfolding tagOf beyond tablesOf _and_
   beyond-is h l =
       sym (some-one (tagOrBeyond 𝒯 t) n (omega arith)
-      ∙ rw (lt-ltb (n - 1) (length tags) l, lt-leb (length tags) (n - 1) l)
-      (byTest (eqb (getD tags (n - 1) 0) t) (λ q. rw q) (λ q. rw q)))
+      ∙ rw (lt-ltb (n - 1) (length tags) l, lt-leb (length tags) (n - 1) l) (or-false _))
 
-module _ (𝒯 : Tables) (vs : Values) (x t : ℕ) (k : Constants) (e : listed k ≡ constantsOf vs (depAt x)) where
-  pub known-born : some (tagOf 𝒯 t) (held (k .born)) ≡ true → true ≡ knownTag 𝒯 vs t (depAt x)
-  unfolding knownTag
-  known-born h = some-born (tagOf 𝒯 t) k _ e h
+-- k is the constant of x where nothing was tested
+module _ (words frames constants : List ℕ) (tested equal x k : ℕ)
+    (e : held k ≡ constantsOf (valuesOf words frames constants 0 0) (depAt x)) where
+  abbrev us : Values
+  us = valuesOf words frames constants tested equal
 
-  pub known-same : some (tagOf 𝒯 t) (held (k .born)) ≡ false → some (tagOf 𝒯 t) (held (k .same)) ≡ true → true ≡ knownTag 𝒯 vs t (depAt x)
-  unfolding knownTag
-  known-same g h = some-same (tagOf 𝒯 t) k _ e g h
+  two : constantsOf us (depAt x) ≡ held k ++ held (testedConstant tested equal (depAt x))
+  two = constants-are words frames constants tested equal x k e
 
-  pub known-told : some (tagOf 𝒯 t) (held (k .born)) ≡ false → some (tagOf 𝒯 t) (held (k .same)) ≡ false
-      → (b : Bool) → b ≡ some (tagOf 𝒯 t) (held (k .told)) → b ≡ knownTag 𝒯 vs t (depAt x)
-  unfolding knownTag
-  known-told g h b eb = some-told (tagOf 𝒯 t) k _ e g h b eb
+  module _ (f : ℕ → Bool) where
+    pub known-own : some f (held k) ≡ true → true ≡ some f (constantsOf us (depAt x))
+    known-own h = some-first f k (testedConstant tested equal (depAt x)) _ two h
 
-pub zero-known : (𝒯 : Tables) (vs : Values) (v x : ℕ) (k : Constants) → x ≡ v → x < 256 → listed k ≡ constantsOf vs (depAt x) → contained k 1 ≡ knownZero 𝒯 vs v
-unfolding knownZero contained
-zero-known 𝒯 vs v x k ex h e = some-one (λ c. some (eqb c) (listed k)) 1 (omega arith) ∙ rw (e, dep-name x h, ex)
+    pub known-tested : some f (held k) ≡ false → (s : ℕ) → s ≡ testedConstant tested equal (depAt x)
+        → (b : Bool) → b ≡ some f (held s) → b ≡ some f (constantsOf us (depAt x))
+    known-tested h s es b eb = some-second f k (testedConstant tested equal (depAt x)) _ two h b (rw es at eb)
 
--- ---- fits
+  pub first-known : (𝒯 : Tables) (s : ℕ) → s ≡ testedConstant tested equal (depAt x)
+      → (r : Reference) → r ≡ firstTag 𝒯 (held k ++ held s) → r ≡ firstTag 𝒯 (constantsOf us (depAt x))
+  first-known 𝒯 s es r er = er ∙ rw (two, es)
 
--- what a value of a kind is: its type word is m, and the frame it is read in f
-module _ (𝒯 : Tables) (words frames constants : List ℕ) (tested equal v t : ℕ) (k : ℕ) (ek : k ≡ kindOf (getD words v 0)) where
-  abbrev ws : Values
-  ws = valuesOf words frames constants tested equal
+  -- x is a value
+  module _ (h : x < 256) (𝒯 : Tables) where
+    pub zero-own : k ≡ 1 → true ≡ knownZero 𝒯 us x
+    unfolding knownZero
+    zero-own z = rw (← dep-name x h) (known-own (eqb 0) (held-is k 0 ∙ eq-eqb k 1 z))
 
+    pub zero-tested : (k ≡ 1 → ⊥) → (s : ℕ) → s ≡ testedConstant tested equal (depAt x) → eqb s 1 ≡ knownZero 𝒯 us x
+    unfolding knownZero
+    zero-tested n s es = rw (← dep-name x h) (known-tested (eqb 0) (held-is k 0 ∙ ne-eqb k 1 n) s es _ (sym (held-is s 0)))
+
+-- ---- what a value is, by its kind
+
+module _ (𝒯 : Tables) (vs : Values) (v k : ℕ) (ek : k ≡ kindOf (getD (vs .words) v 0)) where
   abbrev σ : ℕ → ℕ
-  σ = λ i. getD (framesOf frames) (birthplace v) 0 + i
+  σ = λ i. getD (vs .frames) (birthplace v) 0 + i
 
   abbrev m : ℕ
-  m = getD words v 0
+  m = getD (vs .words) v 0
 
-  pub ref-ref : k ≡ 1 → (u : ℕ) → u ≡ recordOf m → eqb u t ≡ isRef 𝒯 ws t (typed ws v)
-  unfolding isRef typed
-  ref-ref h u eu = rw (type-ref σ m (sym ek ∙ h), ← eu)
+  module _ (t u : ℕ) (eu : u ≡ recordOf m) where
+    pub ref-ref : k ≡ 1 → eqb u t ≡ isRef 𝒯 vs t (typed vs v)
+    unfolding isRef typed
+    ref-ref h = rw (type-ref σ m (sym ek ∙ h), ← eu)
 
-  pub ref-in : k ≡ 8 → (u : ℕ) → u ≡ recordOf m → eqb u t ≡ isRef 𝒯 ws t (typed ws v)
+    pub ref-in : k ≡ 8 → eqb u t ≡ isRef 𝒯 vs t (typed vs v)
+    unfolding isRef typed _and_
+    ref-in h = rw (type-span σ m 2 (sym ek ∙ h), ← eu)
+
+    pub maybe-maybe : k ≡ 2 → eqb u t ≡ isMaybe 𝒯 vs t (typed vs v)
+    unfolding isMaybe typed
+    maybe-maybe h = rw (type-maybe σ m (sym ek ∙ h), ← eu)
+
+  pub ref-other : (t : ℕ) → (k ≡ 1 → ⊥) → (k ≡ 8 → ⊥) → (k ≡ 4 → ⊥) → false ≡ isRef 𝒯 vs t (typed vs v)
   unfolding isRef typed _and_
-  ref-in h u eu = rw (type-span σ m 2 (sym ek ∙ h), ← eu)
-
-  pub ref-other : (k ≡ 1 → ⊥) → (k ≡ 8 → ⊥) → (k ≡ 4 → ⊥) → false ≡ isRef 𝒯 ws t (typed ws v)
-  unfolding isRef typed _and_
-  ref-other n1 n8 n4 =
+  ref-other t n1 n8 n4 =
       byKind (kindOf m) (λ e. rw (type-any σ m e)) (λ e. absurd (n1 (ek ∙ e))) (λ e. rw (type-maybe σ m e)) (λ e. rw (type-tagged σ m e))
       (λ e. absurd (n4 (ek ∙ e))) (λ e. rw (type-same σ m e)) (λ j e. rw (type-span σ m j e, ne-eqb j 2 (λ z. n8 (omega arith))))
 
-  pub maybe-maybe : k ≡ 2 → (u : ℕ) → u ≡ recordOf m → eqb u t ≡ isMaybe 𝒯 ws t (typed ws v)
+  pub maybe-other : (t : ℕ) → (k ≡ 2 → ⊥) → (k ≡ 3 → ⊥) → false ≡ isMaybe 𝒯 vs t (typed vs v)
   unfolding isMaybe typed
-  maybe-maybe h u eu = rw (type-maybe σ m (sym ek ∙ h), ← eu)
-
-  pub maybe-other : (k ≡ 2 → ⊥) → (k ≡ 3 → ⊥) → false ≡ isMaybe 𝒯 ws t (typed ws v)
-  unfolding isMaybe typed
-  maybe-other n2 n3 =
+  maybe-other t n2 n3 =
       byKind (kindOf m) (λ e. rw (type-any σ m e)) (λ e. rw (type-ref σ m e)) (λ e. absurd (n2 (ek ∙ e))) (λ e. absurd (n3 (ek ∙ e)))
       (λ e. rw (type-present σ m e)) (λ e. rw (type-same σ m e)) (λ j e. rw (type-span σ m j e))
 
+  -- the tag d wanted is one of its record type u
+  pub tag-of-record : (present : Bool) (d : Dep) (u : ℕ) → byRecord present k ≡ true → u ≡ recordOf m
+      → (b : Bool) → b ≡ knownTag 𝒯 vs u d → b ≡ tagFits 𝒯 vs present d (typed vs v)
+  unfolding byRecord tagFits isTagged isPresent typed _and_
+  tag-of-record true d u h eu b eb =
+      either (or-true (eqb k 1) (eqb k 8) h)
+      (λ q. rw (type-ref σ m (sym ek ∙ eqb-true k 1 q), ← eu) eb)
+      (λ q. rw (type-span σ m 2 (sym ek ∙ eqb-true k 8 q), ← eu) eb)
+  tag-of-record false d u h eu b eb =
+      either (or-true (eqb k 1) (eqb k 8 or eqb k 2) h)
+      (λ q. rw (type-ref σ m (sym ek ∙ eqb-true k 1 q), ← eu) eb)
+      (λ h. either (or-true (eqb k 8) (eqb k 2) h)
+      (λ q. rw (type-span σ m 2 (sym ek ∙ eqb-true k 8 q), ← eu) eb)
+      (λ q. rw (type-maybe σ m (sym ek ∙ eqb-true k 2 q), ← eu) eb))
+
+  pub tag-other : (present : Bool) (d : Dep) → byRecord present k ≡ false → byOwnTag present k ≡ false
+      → false ≡ tagFits 𝒯 vs present d (typed vs v)
+  unfolding byRecord byOwnTag tagFits isTagged isPresent typed _and_ _or_
+  tag-other true d r o =
+      byKind (kindOf m) (λ e. rw (type-any σ m e)) (λ e. absurd (false≢true (sym (rw (ek ∙ e) at r)))) (λ e. rw (type-maybe σ m e))
+      (λ e. rw (type-tagged σ m e)) (λ e. absurd (false≢true (sym (rw (ek ∙ e) at o)))) (λ e. rw (type-same σ m e))
+      (λ j e. byEqual j 2 (λ z. let q : k ≡ 8 = omega arith in absurd (false≢true (sym (rw q at r)))) (λ n. rw (type-span σ m j e, ne-eqb j 2 n)))
+  tag-other false d r o =
+      byKind (kindOf m) (λ e. rw (type-any σ m e)) (λ e. absurd (false≢true (sym (rw (ek ∙ e) at r))))
+      (λ e. absurd (false≢true (sym (rw (ek ∙ e) at r)))) (λ e. absurd (false≢true (sym (rw (ek ∙ e) at o))))
+      (λ e. absurd (false≢true (sym (rw (ek ∙ e) at o)))) (λ e. rw (type-same σ m e))
+      (λ j e. byEqual j 2 (λ z. let q : k ≡ 8 = omega arith in absurd (false≢true (sym (rw q at r)))) (λ n. rw (type-span σ m j e, ne-eqb j 2 n)))
+
   -- x is the dependency of v
-  module _ (x p : ℕ) (ep : p ≡ firstOf m) (ex : depAt x ≡ siblingOf (getD (framesOf frames) (birthplace v) 0) p) where
+  module _ (x p : ℕ) (ep : p ≡ firstOf m) (ex : depAt x ≡ siblingOf (getD (vs .frames) (birthplace v) 0) p) where
     own : depAt x ≡ renameDep σ (depOf (firstOf m))
     unfolding siblingOf
-    own = ex ∙ ap (λ (z : ℕ). siblingOf (getD (framesOf frames) (birthplace v) 0) z) ep
+    own = ex ∙ rw ep
 
-    pub ref-present : k ≡ 4 → (b : Bool) → b ≡ knownTag 𝒯 ws t (depAt x) → b ≡ isRef 𝒯 ws t (typed ws v)
+    pub ref-present : (t : ℕ) → k ≡ 4 → (b : Bool) → b ≡ knownTag 𝒯 vs t (depAt x) → b ≡ isRef 𝒯 vs t (typed vs v)
     unfolding isRef typed
-    ref-present h b eb = rw (type-present σ m (sym ek ∙ h), ← own) eb
+    ref-present t h b eb = rw (type-present σ m (sym ek ∙ h), ← own) eb
 
-    pub maybe-tagged : k ≡ 3 → (b : Bool) → b ≡ some (tagOrBeyond 𝒯 t) (constantsOf ws (depAt x)) → b ≡ isMaybe 𝒯 ws t (typed ws v)
+    pub maybe-tagged : (t : ℕ) → k ≡ 3 → (b : Bool) → b ≡ some (tagOrBeyond 𝒯 t) (constantsOf vs (depAt x)) → b ≡ isMaybe 𝒯 vs t (typed vs v)
     unfolding isMaybe typed
-    maybe-tagged h b eb = rw (type-tagged σ m (sym ek ∙ h), ← own) eb
+    maybe-tagged t h b eb = rw (type-tagged σ m (sym ek ∙ h), ← own) eb
 
-    pub present-present : k ≡ 4 → (b : Bool) → b ≡ knownEqual ws (depAt x) (depAt t) → b ≡ isPresent 𝒯 ws (depAt t) (typed ws v)
-    unfolding isPresent typed
-    present-present h b eb = rw (type-present σ m (sym ek ∙ h), ← own) eb
+    -- its own tag is known equal to the tag d wanted
+    pub tag-of-own : (present : Bool) (d : Dep) → byOwnTag present k ≡ true
+        → (b : Bool) → b ≡ knownEqual vs (depAt x) d → b ≡ tagFits 𝒯 vs present d (typed vs v)
+    unfolding byOwnTag tagFits isTagged isPresent typed
+    tag-of-own true d h b eb = rw (type-present σ m (sym ek ∙ eqb-true k 4 h), ← own) eb
+    tag-of-own false d h b eb =
+        either (or-true (eqb k 4) (eqb k 3) h) (λ q. rw (type-present σ m (sym ek ∙ eqb-true k 4 q), ← own) eb)
+        (λ q. rw (type-tagged σ m (sym ek ∙ eqb-true k 3 q), ← own) eb)
 
-    pub tagged-tagged : k ≡ 3 → (b : Bool) → b ≡ knownEqual ws (depAt x) (depAt t) → b ≡ isTagged 𝒯 ws (depAt t) (typed ws v)
-    unfolding isTagged typed
-    tagged-tagged h b eb = rw (type-tagged σ m (sym ek ∙ h), ← own) eb
-
-    pub reference-present : k ≡ 4 → (r : Reference) → r ≡ firstTag 𝒯 (constantsOf ws (depAt x)) → r ≡ referenceOf 𝒯 ws (typed ws v)
+    pub reference-present : k ≡ 4 → (r : Reference) → r ≡ firstTag 𝒯 (constantsOf vs (depAt x)) → r ≡ referenceOf 𝒯 vs (typed vs v)
     unfolding referenceOf typed
     reference-present h r er = rw (type-present σ m (sym ek ∙ h), ← own) er
 
-  -- y is the dependency wanted, and u the record type of v
-  module _ (u : ℕ) (eu : u ≡ recordOf m) (b : Bool) (eb : b ≡ knownTag 𝒯 ws u (depAt t)) where
-    pub present-ref : k ≡ 1 → b ≡ isPresent 𝒯 ws (depAt t) (typed ws v)
-    unfolding isPresent typed
-    present-ref h = rw (type-ref σ m (sym ek ∙ h), ← eu) eb
-
-    pub present-in : k ≡ 8 → b ≡ isPresent 𝒯 ws (depAt t) (typed ws v)
-    unfolding isPresent typed _and_
-    present-in h = rw (type-span σ m 2 (sym ek ∙ h), ← eu) eb
-
-    pub tagged-maybe : k ≡ 2 → b ≡ isTagged 𝒯 ws (depAt t) (typed ws v)
-    unfolding isTagged typed
-    tagged-maybe h = rw (type-maybe σ m (sym ek ∙ h), ← eu) eb
-
-  pub present-other : (k ≡ 4 → ⊥) → (k ≡ 1 → ⊥) → (k ≡ 8 → ⊥) → false ≡ isPresent 𝒯 ws (depAt t) (typed ws v)
-  unfolding isPresent typed _and_
-  present-other n4 n1 n8 =
-      byKind (kindOf m) (λ e. rw (type-any σ m e)) (λ e. absurd (n1 (ek ∙ e))) (λ e. rw (type-maybe σ m e)) (λ e. rw (type-tagged σ m e))
-      (λ e. absurd (n4 (ek ∙ e))) (λ e. rw (type-same σ m e)) (λ j e. rw (type-span σ m j e, ne-eqb j 2 (λ z. n8 (omega arith))))
-
-  pub tagged-other : (k ≡ 3 → ⊥) → (k ≡ 2 → ⊥) → isPresent 𝒯 ws (depAt t) (typed ws v) ≡ isTagged 𝒯 ws (depAt t) (typed ws v)
-  unfolding isPresent isTagged typed
-  tagged-other n3 n2 =
-      byKind (kindOf m) (λ e. rw (type-any σ m e)) (λ e. rw (type-ref σ m e)) (λ e. absurd (n2 (ek ∙ e))) (λ e. absurd (n3 (ek ∙ e)))
-      (λ e. rw (type-present σ m e)) (λ e. rw (type-same σ m e)) (λ j e. rw (type-span σ m j e))
-
-  pub reference-ref : k ≡ 1 → (u : ℕ) → u ≡ recordOf m → To u ≡ referenceOf 𝒯 ws (typed ws v)
+  pub reference-ref : k ≡ 1 → (u : ℕ) → u ≡ recordOf m → To u ≡ referenceOf 𝒯 vs (typed vs v)
   unfolding referenceOf typed
   reference-ref h u eu = rw (type-ref σ m (sym ek ∙ h), ← eu)
 
-  pub reference-in : k ≡ 8 → (u : ℕ) → u ≡ recordOf m → To u ≡ referenceOf 𝒯 ws (typed ws v)
+  pub reference-in : k ≡ 8 → (u : ℕ) → u ≡ recordOf m → To u ≡ referenceOf 𝒯 vs (typed vs v)
   unfolding referenceOf typed
   reference-in h u eu = rw (type-span σ m 2 (sym ek ∙ h), ← eu)
 
-  pub reference-other : (k ≡ 1 → ⊥) → (k ≡ 8 → ⊥) → (k ≡ 4 → ⊥) → Nothing ≡ referenceOf 𝒯 ws (typed ws v)
+  pub reference-other : (k ≡ 1 → ⊥) → (k ≡ 8 → ⊥) → (k ≡ 4 → ⊥) → Nothing ≡ referenceOf 𝒯 vs (typed vs v)
   unfolding referenceOf typed
   reference-other n1 n8 n4 =
       byKind (kindOf m) (λ e. rw (type-any σ m e)) (λ e. absurd (n1 (ek ∙ e))) (λ e. rw (type-maybe σ m e)) (λ e. rw (type-tagged σ m e))
       (λ e. absurd (n4 (ek ∙ e))) (λ e. rw (type-same σ m e)) (λ j e. rw (type-span σ m j e, ne-eqb j 2 (λ z. n8 (omega arith))))
 
--- the type wanted, by its kind
+-- how a kind fits Tagged, and Present
+module _ (present : Bool) (k : ℕ) where
+  pub record-ref : k ≡ 1 → true ≡ byRecord present k
+  unfolding byRecord _or_
+  record-ref e = byTest present (λ q. rw (q, e)) (λ q. rw (q, e))
+
+  pub record-in : k ≡ 8 → true ≡ byRecord present k
+  unfolding byRecord _or_
+  record-in e = byTest present (λ q. rw (q, e)) (λ q. rw (q, e))
+
+  pub own-present : k ≡ 4 → true ≡ byOwnTag present k
+  unfolding byOwnTag _or_
+  own-present e = byTest present (λ q. rw (q, e)) (λ q. rw (q, e))
+
+  module _ (p : present ≡ true) where
+    pub record-none : (k ≡ 1 → ⊥) → (k ≡ 8 → ⊥) → false ≡ byRecord present k
+    unfolding byRecord _or_
+    record-none n1 n8 = rw (p, ne-eqb k 1 n1, ne-eqb k 8 n8)
+
+    pub own-none : (k ≡ 4 → ⊥) → false ≡ byOwnTag present k
+    unfolding byOwnTag _or_
+    own-none n4 = rw (p, ne-eqb k 4 n4)
+
+  module _ (p : present ≡ false) where
+    pub record-maybe : (k ≡ 1 → ⊥) → (k ≡ 8 → ⊥) → eqb k 2 ≡ byRecord present k
+    unfolding byRecord _or_
+    record-maybe n1 n8 = rw (p, ne-eqb k 1 n1, ne-eqb k 8 n8)
+
+    pub own-tagged : (k ≡ 4 → ⊥) → eqb k 3 ≡ byOwnTag present k
+    unfolding byOwnTag _or_
+    own-tagged n4 = rw (p, ne-eqb k 4 n4)
+
+-- ---- the type wanted, by its kind
+
 module _ (𝒯 : Tables) (vs : Values) (v w : ℕ) (names : List ℕ) (k : ℕ) (ek : k ≡ kindOf w) where
   abbrev τ : ℕ → ℕ
   τ = λ i. getD names i 0
 
-  pub fits-any : k ≡ 0 → true ≡ fits 𝒯 vs v (meant names w)
+  abbrev wants : Bool
+  wants = fits 𝒯 vs v (meant names w)
+
+  pub fits-any : k ≡ 0 → true ≡ wants
   unfolding fits
   fits-any h = rw (type-any τ w (sym ek ∙ h))
 
   module _ (t : ℕ) (et : t ≡ recordOf w) where
-    pub fits-is-ref : 1 ≤ k → k ≤ 2 → isRef 𝒯 vs t (typed vs v) ≡ true → true ≡ fits 𝒯 vs v (meant names w)
+    pub fits-is-ref : 1 ≤ k → k ≤ 2 → isRef 𝒯 vs t (typed vs v) ≡ true → true ≡ wants
     unfolding fits _or_
     fits-is-ref l h q =
         byEqual k 1 (λ e. rw (type-ref τ w (sym ek ∙ e), ← et, q))
         (λ n. rw (type-maybe τ w (omega arith), ← et, q))
 
-    pub fits-ref : k ≡ 1 → isRef 𝒯 vs t (typed vs v) ≡ false → false ≡ fits 𝒯 vs v (meant names w)
-    unfolding fits
-    fits-ref e q = rw (type-ref τ w (sym ek ∙ e), ← et, q)
+    module _ (q : isRef 𝒯 vs t (typed vs v) ≡ false) where
+      pub fits-ref : k ≡ 1 → false ≡ wants
+      unfolding fits
+      fits-ref e = rw (type-ref τ w (sym ek ∙ e), ← et, q)
 
-    pub fits-zero : k ≡ 2 → isRef 𝒯 vs t (typed vs v) ≡ false → knownZero 𝒯 vs v ≡ true → true ≡ fits 𝒯 vs v (meant names w)
-    unfolding fits _or_
-    fits-zero e q z = rw (type-maybe τ w (sym ek ∙ e), ← et, q, z)
+      pub fits-zero : k ≡ 2 → knownZero 𝒯 vs v ≡ true → true ≡ wants
+      unfolding fits _or_
+      fits-zero e z = rw (type-maybe τ w (sym ek ∙ e), ← et, q, z)
 
-    pub fits-maybe : k ≡ 2 → isRef 𝒯 vs t (typed vs v) ≡ false → knownZero 𝒯 vs v ≡ false
-        → (b : Bool) → b ≡ isMaybe 𝒯 vs t (typed vs v) → b ≡ fits 𝒯 vs v (meant names w)
-    unfolding fits _or_
-    fits-maybe e q z b eb = rw (type-maybe τ w (sym ek ∙ e), ← et, q, z) eb
+      pub fits-maybe : k ≡ 2 → knownZero 𝒯 vs v ≡ false → (b : Bool) → b ≡ isMaybe 𝒯 vs t (typed vs v) → b ≡ wants
+      unfolding fits _or_
+      fits-maybe e z b eb = rw (type-maybe τ w (sym ek ∙ e), ← et, q, z) eb
 
   -- y is the dependency wanted
   module _ (y p : ℕ) (ep : p ≡ firstOf w) (ey : depAt y ≡ namedOf names p) where
     wanted : depAt y ≡ renameDep τ (depOf (firstOf w))
     unfolding namedOf
-    wanted = ey ∙ ap (λ (z : ℕ). namedOf names z) ep
+    wanted = ey ∙ rw ep
 
-    pub fits-present : k ≡ 4 → (b : Bool) → b ≡ isPresent 𝒯 vs (depAt y) (typed vs v) → b ≡ fits 𝒯 vs v (meant names w)
-    unfolding fits
-    fits-present e b eb = rw (type-present τ w (sym ek ∙ e), ← wanted) eb
-
-    pub fits-tagged-zero : k ≡ 3 → knownZero 𝒯 vs v ≡ true → true ≡ fits 𝒯 vs v (meant names w)
-    unfolding fits _or_
-    fits-tagged-zero e z = rw (type-tagged τ w (sym ek ∙ e), z)
-
-    pub fits-tagged : k ≡ 3 → knownZero 𝒯 vs v ≡ false → (b : Bool) → b ≡ isTagged 𝒯 vs (depAt y) (typed vs v) → b ≡ fits 𝒯 vs v (meant names w)
-    unfolding fits _or_
-    fits-tagged e z b eb = rw (type-tagged τ w (sym ek ∙ e), ← wanted, z) eb
-
-    pub fits-same : k ≡ 5 → (x : ℕ) → x ≡ v → x < 256 → (b : Bool) → b ≡ knownEqual vs (depAt x) (depAt y) → b ≡ fits 𝒯 vs v (meant names w)
+    pub fits-same : k ≡ 5 → (x : ℕ) → x ≡ v → x < 256 → (b : Bool) → b ≡ knownEqual vs (depAt x) (depAt y) → b ≡ wants
     unfolding fits
     fits-same e x ex h b eb = rw (type-same τ w (sym ek ∙ e), ← wanted, ← ex, ← dep-name x h) eb
 
--- a span wanted: w has kind j + 6, and v's word m
-module _ (𝒯 : Tables) (words frames constants : List ℕ) (tested equal v w : ℕ) (names : List ℕ) (h : 6 ≤ kindOf w) (m k : ℕ) (em : m ≡ getD words v 0) (ek : k ≡ kindOf m) where
-  abbrev xs : Values
-  xs = valuesOf words frames constants tested equal
+    -- Tagged, or Present
+    module _ (l : 3 ≤ k) (h : k ≤ 4) where
+      as-present : eqb k 4 ≡ true → wants ≡ tagFits 𝒯 vs (eqb k 4) (depAt y) (typed vs v)
+      unfolding fits tagFits
+      as-present q = rw (q, type-present τ w (sym ek ∙ eqb-true k 4 q), ← wanted)
 
+      as-tagged : eqb k 4 ≡ false → wants ≡ knownZero 𝒯 vs v or tagFits 𝒯 vs (eqb k 4) (depAt y) (typed vs v)
+      unfolding fits tagFits
+      as-tagged q = let n = eqb-false k 4 q in rw (q, type-tagged τ w (omega arith), ← wanted)
+
+      pub fits-tag : tagFits 𝒯 vs (eqb k 4) (depAt y) (typed vs v) ≡ true → true ≡ wants
+      fits-tag e = byTest (eqb k 4) (λ q. sym (as-present q ∙ e)) (λ q. sym (as-tagged q ∙ or-of-true _ _ e))
+
+      module _ (e : tagFits 𝒯 vs (eqb k 4) (depAt y) (typed vs v) ≡ false) where
+        pub fits-present : eqb k 4 ≡ true → false ≡ wants
+        fits-present q = sym (as-present q ∙ e)
+
+        pub fits-tagged : eqb k 4 ≡ false → (b : Bool) → b ≡ knownZero 𝒯 vs v → b ≡ wants
+        fits-tagged q b eb = eb ∙ sym (as-tagged q ∙ rw e (or-false _))
+
+-- ---- a span wanted
+
+-- the dependencies of v are known equal to those wanted: the first, and the second
+module _ (vs : Values) (v w : ℕ) (names : List ℕ) where
+  abbrev pub firsts : Bool
+  firsts = knownEqual vs (siblingOf (getD (vs .frames) (birthplace v) 0) (firstOf (getD (vs .words) v 0))) (namedOf names (firstOf w))
+
+  abbrev pub seconds : Bool
+  seconds = knownEqual vs (siblingOf (getD (vs .frames) (birthplace v) 0) (secondOf (getD (vs .words) v 0))) (namedOf names (secondOf w))
+
+-- x and y are the dependencies with the bytes p and q
+pub known-of : (vs : Values) (names : List ℕ) (f f′ x p p′ y q q′ : ℕ) → f ≡ f′ → depAt x ≡ siblingOf f p → p ≡ p′
+    → depAt y ≡ namedOf names q → q ≡ q′
+    → (b : Bool) → b ≡ knownEqual vs (depAt x) (depAt y) → b ≡ knownEqual vs (siblingOf f′ p′) (namedOf names q′)
+known-of vs names f f′ x p p′ y q q′ ef ex ep ey eq b eb = rw (← ef, ← ep, ← eq, ← ex, ← ey) eb
+
+module _ (𝒯 : Tables) (vs : Values) (v w : ℕ) (names : List ℕ) (h : 6 ≤ kindOf w) where
   abbrev ρ : ℕ → ℕ
-  ρ = λ i. getD (framesOf frames) (birthplace v) 0 + i
+  ρ = λ i. getD (vs .frames) (birthplace v) 0 + i
 
   abbrev μ : ℕ → ℕ
   μ = λ i. getD names i 0
 
+  abbrev n : ℕ
+  n = getD (vs .words) v 0
+
   abbrev fit : Bool
-  fit = fits 𝒯 xs v (meant names w)
+  fit = fits 𝒯 vs v (meant names w)
 
   as-span : (j : ℕ) → kindOf w ≡ j + 6
-      → fit ≡ isSpan 𝒯 xs j (recordOf w) (renameDep μ (depOf (firstOf w))) (renameDep μ (depOf (secondOf w))) (rename ρ (typeOf m))
+      → fit ≡ isSpan 𝒯 vs j (recordOf w) (renameDep μ (depOf (firstOf w))) (renameDep μ (depOf (secondOf w))) (rename ρ (typeOf n))
   unfolding fits typed
-  as-span j e = rw (type-span μ w j e, em)
+  as-span j e = rw (type-span μ w j e)
 
-  of-spans : (j i : ℕ) → kindOf w ≡ j + 6 → kindOf m ≡ i + 6
-      → fit ≡ leb j i and eqb (recordOf m) (recordOf w)
-      and knownEqual xs (renameDep ρ (depOf (firstOf m))) (renameDep μ (depOf (firstOf w)))
-      and knownEqual xs (renameDep ρ (depOf (secondOf m))) (renameDep μ (depOf (secondOf w)))
-  unfolding isSpan
-  of-spans j i e f = as-span j e ∙ rw (type-span ρ m i f)
+  of-spans : (j i : ℕ) → kindOf w ≡ j + 6 → kindOf n ≡ i + 6 → fit ≡ leb j i and eqb (recordOf n) (recordOf w) and firsts vs v w names and seconds vs v w names
+  unfolding isSpan siblingOf namedOf
+  of-spans j i e f = as-span j e ∙ rw (type-span ρ n i f)
 
-  pub span-below : k < kindOf w → false ≡ fit
+  pub span-below : kindOf n < kindOf w → false ≡ fit
   unfolding isSpan _and_
   span-below l =
       let j = kindOf w - 6 in
       let ew : kindOf w ≡ j + 6 = omega arith in
       sym (as-span j ew
-      ∙ byKind (kindOf m) (λ e. rw (type-any ρ m e)) (λ e. rw (type-ref ρ m e)) (λ e. rw (type-maybe ρ m e)) (λ e. rw (type-tagged ρ m e))
-      (λ e. rw (type-present ρ m e)) (λ e. rw (type-same ρ m e)) (λ i e. rw (type-span ρ m i e, lt-leb j i (omega arith))))
+      ∙ byKind (kindOf n) (λ e. rw (type-any ρ n e)) (λ e. rw (type-ref ρ n e)) (λ e. rw (type-maybe ρ n e)) (λ e. rw (type-tagged ρ n e))
+      (λ e. rw (type-present ρ n e)) (λ e. rw (type-same ρ n e)) (λ i e. rw (type-span ρ n i e, lt-leb j i (omega arith))))
 
-  module _ (l : kindOf w ≤ k) where
-    ranks : leb (kindOf w - 6) (k - 6) ≡ true
-    ranks = le-leb (kindOf w - 6) (k - 6) (omega arith)
-
-    both : fit ≡ leb (kindOf w - 6) (k - 6) and eqb (recordOf m) (recordOf w)
-        and knownEqual xs (renameDep ρ (depOf (firstOf m))) (renameDep μ (depOf (firstOf w)))
-        and knownEqual xs (renameDep ρ (depOf (secondOf m))) (renameDep μ (depOf (secondOf w)))
-    both = of-spans (kindOf w - 6) (k - 6) (omega arith) (omega arith)
-
-    module _ (t u : ℕ) (et : t ≡ recordOf m) (eu : u ≡ recordOf w) where
-      pub span-record : (t ≡ u → ⊥) → false ≡ fit
-      unfolding _and_
-      span-record n = sym (both ∙ rw (ranks, ← et, ← eu, ne-eqb t u n))
-
-      module _ (q : t ≡ u) (f : ℕ) (ef : f ≡ getD (framesOf frames) (birthplace v) 0)
-          (x p y o : ℕ) (ep : p ≡ firstOf m) (ex : depAt x ≡ siblingOf f p) (eo : o ≡ firstOf w) (ey : depAt y ≡ namedOf names o) where
-        first-own : depAt x ≡ renameDep ρ (depOf (firstOf m))
-        unfolding siblingOf
-        first-own = ex ∙ ap (λ (z : ℕ). siblingOf z p) ef ∙ ap (λ (z : ℕ). siblingOf (getD (framesOf frames) (birthplace v) 0) z) ep
-
-        first-wanted : depAt y ≡ renameDep μ (depOf (firstOf w))
-        unfolding namedOf
-        first-wanted = ey ∙ ap (λ (z : ℕ). namedOf names z) eo
-
-        pub span-first : knownEqual xs (depAt x) (depAt y) ≡ false → false ≡ fit
-        unfolding _and_
-        span-first d = sym (both ∙ rw (ranks, ← et, ← eu, eq-eqb t u q, ← first-own, ← first-wanted, d))
-
-        pub span-second : knownEqual xs (depAt x) (depAt y) ≡ true
-            → (x′ p′ y′ o′ : ℕ) → p′ ≡ secondOf m → depAt x′ ≡ siblingOf f p′ → o′ ≡ secondOf w → depAt y′ ≡ namedOf names o′
-            → (b : Bool) → b ≡ knownEqual xs (depAt x′) (depAt y′) → b ≡ fit
-        unfolding _and_ siblingOf namedOf
-        span-second d x′ p′ y′ o′ ep′ ex′ eo′ ey′ b eb =
-            let s : depAt x′ ≡ renameDep ρ (depOf (secondOf m)) = ex′ ∙ ap (λ (z : ℕ). siblingOf z p′) ef ∙ ap (λ (z : ℕ). siblingOf (getD (framesOf frames) (birthplace v) 0) z) ep′ in
-            let r : depAt y′ ≡ renameDep μ (depOf (secondOf w)) = ey′ ∙ ap (λ (z : ℕ). namedOf names z) eo′ in
-            eb ∙ sym (both ∙ rw (ranks, ← et, ← eu, eq-eqb t u q, ← first-own, ← first-wanted, d, ← s, ← r))
+  pub span-ranked : kindOf w ≤ kindOf n → fit ≡ eqb (recordOf n) (recordOf w) and firsts vs v w names and seconds vs v w names
+  unfolding _and_
+  span-ranked l =
+      of-spans (kindOf w - 6) (kindOf n - 6) (omega arith) (omega arith)
+      ∙ rw (le-leb (kindOf w - 6) (kindOf n - 6) (omega arith))
 
 -- ---- rows
 
@@ -381,7 +472,8 @@ pub row-is : (𝒯 : Tables) (vs : Values) (n : ℕ) (row names : List ℕ) → 
 unfolding rowFits placeFits
 row-is 𝒯 vs n row names = rw sub-zero
 
-pub place-is : (𝒯 : Tables) (vs : Values) (row names : List ℕ) (i : ℕ) (b : Bool) → b ≡ fits 𝒯 vs (getD names i 0) (meant names (getD row i 0)) → b ≡ placeFits 𝒯 vs row names i
+pub place-is : (𝒯 : Tables) (vs : Values) (row names : List ℕ) (i : ℕ) (b : Bool)
+    → b ≡ fits 𝒯 vs (getD names i 0) (meant names (getD row i 0)) → b ≡ placeFits 𝒯 vs row names i
 unfolding placeFits
 place-is 𝒯 vs row names i b e = e
 
@@ -402,22 +494,17 @@ module _ (types tags : List ℕ) where
   a-tag zero l h q = absurd (omega arith)
   a-tag (suc k) l h q = let z : suc k - 1 ≡ k = omega arith in rw (lt-ltb k (length tags) (omega arith), z)
 
-  module _ (k : Constants) where
-    in-order : listed k ≡ held (k .born) ++ (held (k .same) ++ (held (k .told) ++ []))
-    unfolding listed
-    in-order = simp (append-assoc, append-nil)
+  module _ (k l : ℕ) where
+    pub first-own : (0 < k) × (k ≤ length tags) → To (getD tags (k - 1) 0) ≡ firstTag 𝒮 (held k ++ held l)
+    first-own h = sym (a-tag k (held l) (h .0) (h .1))
 
-    pub first-born : 0 < k .born → k .born ≤ length tags → To (getD tags (k .born - 1) 0) ≡ firstTag 𝒮 (listed k)
-    first-born h q = sym (rw in-order (a-tag (k .born) _ h q))
+    module _ (n : (k ≡ 0) ⊎ (length tags < k)) where
+      past : firstTag 𝒮 (held k ++ held l) ≡ firstTag 𝒮 (held l ++ [])
+      past = no-tag k (held l) n ∙ simp append-nil
 
-    module _ (nb : (k .born ≡ 0) ⊎ (length tags < k .born)) where
-      pub first-same : 0 < k .same → k .same ≤ length tags → To (getD tags (k .same - 1) 0) ≡ firstTag 𝒮 (listed k)
-      first-same h q = sym (rw in-order (no-tag (k .born) _ nb ∙ a-tag (k .same) _ h q))
+      pub first-tested : (0 < l) × (l ≤ length tags) → To (getD tags (l - 1) 0) ≡ firstTag 𝒮 (held k ++ held l)
+      first-tested h = sym (past ∙ a-tag l [] (h .0) (h .1))
 
-      module _ (ns : (k .same ≡ 0) ⊎ (length tags < k .same)) where
-        pub first-told : 0 < k .told → k .told ≤ length tags → To (getD tags (k .told - 1) 0) ≡ firstTag 𝒮 (listed k)
-        first-told h q = sym (rw in-order (no-tag (k .born) _ nb ∙ no-tag (k .same) _ ns ∙ a-tag (k .told) _ h q))
-
-        pub first-none : (k .told ≡ 0) ⊎ (length tags < k .told) → Nothing ≡ firstTag 𝒮 (listed k)
-        unfolding firstTag
-        first-none nt = sym (rw in-order (no-tag (k .born) _ nb ∙ no-tag (k .same) _ ns ∙ no-tag (k .told) _ nt))
+      pub first-none : (l ≡ 0) ⊎ (length tags < l) → Nothing ≡ firstTag 𝒮 (held k ++ held l)
+      unfolding firstTag
+      first-none h = sym (past ∙ no-tag l [] h)

@@ -1,20 +1,19 @@
 -- Laws of numbers for frames, dependencies and known constants.
 use mathlib.Core.Path.{_≡_, refl, sym, ap, _∙_}
 use mathlib.Core.Bool.{Bool, true, false}
-use mathlib.Core.List.{List, [], _∷_, _++_, map}
-use Prim.Native.Nat.{ℕ, zero, suc, _+_, _-_, _*_, _/_, _%_, _<_, _≤_}
+use mathlib.Core.List.{List, [], _∷_, _++_, append-nil}
+use Prim.Native.Nat.{ℕ, zero, suc, _+_, _-_, _*_, _%_, _<_, _≤_}
 use native.Mathlib.Omega.{arith}
-use lib.Dec.{ltb, leb, eqb}
-use lib.ListN.{length, getD, set}
-use borrow.Author.Tests.{lt-ltb, le-ltb, le-leb, lt-leb, eq-eqb, ne-eqb}
-use Rattle.model.specs.Question.{_and_, _or_, pick}
+use lib.Dec.{eqb}
+use lib.ListN.{getD, set}
+use borrow.Author.Tests.{lt-ltb, le-ltb, eq-eqb, ne-eqb}
+use Rattle.model.specs.Question.{_or_, pick}
 use Rattle.model.specs.Word.{kindOf, recordOf, firstOf, secondOf}
-use Rattle.model.specs.Types.{Dep, name, con, depOf, renameDep, Ty, any, ref, maybe, tagged, present, same, span, ofKind, typeOf, rename}
-use Rattle.model.specs.Reading.{Values, birthplace, typed, held, sameConstant, constantsOf, some, sameDep, isSame, saysSame, knownEqual}
+use Rattle.model.specs.Types.{Dep, name, con, depOf, renameDep, any, ref, maybe, tagged, present, same, span, typeOf, rename}
+use Rattle.model.specs.Reading.{Values, typed, held, constantsOf, some, sameDep}
 use Rattle.model.proofs.Logic.{byTest, byEqual, byLess}
 use Rattle.model.proofs.Lists.{map-set}
-use Rattle.fits.specs.declared.Constants.{Constants}
-use Rattle.fits.specs.Numbers.{frameOf, framesOf, valuesOf, depAt, siblingOf, namedOf, meant, listed, contained, shared}
+use Rattle.fits.specs.Numbers.{frameOf, framesOf, valuesOf, depAt, siblingOf, namedOf, testedConstant, oneConstant, sharedConstant}
 
 -- ---- frames
 
@@ -131,66 +130,98 @@ pub some-one : (f : ℕ → Bool) (n : ℕ) → 0 < n → some f (held n) ≡ f 
 unfolding some _or_
 some-one f n h = let e : n ≡ suc (n - 1) = omega arith in ap {B = Bool} (λ (m : ℕ). some f (held m)) e ∙ byTest (f (n - 1)) (λ q. rw q) (λ q. rw q)
 
--- the answers of the three parts
-pub some-listed : (f : ℕ → Bool) (k : Constants) → some f (listed k) ≡ (some f (held (k .born)) or some f (held (k .same))) or some f (held (k .told))
-unfolding listed
-some-listed f k = rw (some-both f (held (k .born) ++ held (k .same)) (held (k .told)), some-both f (held (k .born)) (held (k .same)))
-
-module _ (f : ℕ → Bool) (k : Constants) (l : List ℕ) (e : listed k ≡ l) where
-  pub some-born : some f (held (k .born)) ≡ true → true ≡ some f l
+-- the answers of two constants
+module _ (f : ℕ → Bool) (k l : ℕ) (cs : List ℕ) (e : cs ≡ held k ++ held l) where
+  pub some-first : some f (held k) ≡ true → true ≡ some f cs
   unfolding _or_
-  some-born h = rw (← e, some-listed f k, h)
+  some-first h = rw (e, some-both f (held k) (held l), h)
 
-  pub some-same : some f (held (k .born)) ≡ false → some f (held (k .same)) ≡ true → true ≡ some f l
+  pub some-second : some f (held k) ≡ false → (b : Bool) → b ≡ some f (held l) → b ≡ some f cs
   unfolding _or_
-  some-same g h = rw (← e, some-listed f k, g, h)
+  some-second g b eb = rw (e, some-both f (held k) (held l), g) eb
 
-  pub some-told : some f (held (k .born)) ≡ false → some f (held (k .same)) ≡ false → (b : Bool) → b ≡ some f (held (k .told)) → b ≡ some f l
-  unfolding _or_
-  some-told g h b eb = rw (← e, some-listed f k, g, h, eb)
+-- ---- one constant
 
-equal-held : (b c : ℕ) → some (eqb c) (held b) ≡ eqb b (suc c)
+pub or-false : (b : Bool) → b or false ≡ b
+unfolding _or_
+or-false true = refl
+or-false false = refl
+
+either-way : (a b : ℕ) → eqb a b ≡ eqb b a
+either-way a b = byEqual a b (λ e. rw (eq-eqb a b e, eq-eqb b a (sym e))) (λ n. rw (ne-eqb a b n, ne-eqb b a (λ e. n (sym e))))
+
+pub held-is : (n c : ℕ) → some (eqb c) (held n) ≡ eqb n (suc c)
 unfolding some _or_
-equal-held zero c = sym (ne-eqb 0 (suc c) (λ e. omega arith))
-equal-held (suc d) c = byEqual c d (λ e. rw (eq-eqb c d e, eq-eqb (suc d) (suc c) (omega arith))) (λ n. rw (ne-eqb c d n, ne-eqb (suc d) (suc c) (λ e. n (omega arith))))
+held-is zero c = sym (ne-eqb 0 (suc c) (λ e. omega arith))
+held-is (suc d) c =
+    byEqual c d (λ e. rw (eq-eqb c d e, eq-eqb (suc d) (suc c) (omega arith)))
+    (λ n. rw (ne-eqb c d n, ne-eqb (suc d) (suc c) (λ e. n (omega arith))))
 
-module _ (k : Constants) (n : ℕ) where
-  pub contains-none : n ≡ 0 → false ≡ contained k n
-  unfolding contained
-  contains-none e = sym (some-none _ n e)
+pub one-none : (k l : ℕ) → k ≡ 0 → false ≡ oneConstant k l
+unfolding oneConstant
+one-none k l e = sym (some-none _ k e)
 
-  among : 0 < n → contained k n ≡ (eqb (k .born) n or eqb (k .same) n) or eqb (k .told) n
-  unfolding contained
-  among h =
-      let e : suc (n - 1) ≡ n = omega arith in
-      some-one _ n h ∙ some-listed (eqb (n - 1)) k
-      ∙ rw (equal-held (k .born) (n - 1), equal-held (k .same) (n - 1), equal-held (k .told) (n - 1), e)
+pub one-of-none : (k : ℕ) → oneConstant k 0 ≡ false
+unfolding oneConstant some _or_
+one-of-none zero = refl
+one-of-none (suc c) = refl
 
-  pub contains-born : (n ≡ 0 → ⊥) → k .born ≡ n → true ≡ contained k n
-  unfolding _or_
-  contains-born h e = rw (among (omega arith), eq-eqb (k .born) n e)
+pub one-is : (k l : ℕ) → (k ≡ 0 → ⊥) → eqb k l ≡ oneConstant k l
+unfolding oneConstant
+one-is k l n =
+    let e : suc (k - 1) ≡ k = omega arith in
+    sym (some-one (λ c. some (eqb c) (held l)) k (omega arith) ∙ held-is l (k - 1) ∙ rw e (either-way l k))
 
-  pub contains-same : (n ≡ 0 → ⊥) → (k .born ≡ n → ⊥) → k .same ≡ n → true ≡ contained k n
-  unfolding _or_
-  contains-same h d e = rw (among (omega arith), ne-eqb (k .born) n d, eq-eqb (k .same) n e)
+-- one of two constants
+one-among : (k l t : ℕ) → some (λ c. some (eqb c) (held l ++ held t)) (held k) ≡ oneConstant k l or oneConstant k t
+unfolding some oneConstant _or_
+one-among zero l t = refl
+one-among (suc c) l t = rw (some-both (eqb c) (held l) (held t)) (simp or-false)
 
-  pub contains-told : (n ≡ 0 → ⊥) → (k .born ≡ n → ⊥) → (k .same ≡ n → ⊥) → eqb (k .told) n ≡ contained k n
-  unfolding _or_
-  contains-told h d e = rw (among (omega arith), ne-eqb (k .born) n d, ne-eqb (k .same) n e)
+module _ (vs : Values) (d e : Dep) (k l s t : ℕ) (ed : constantsOf vs d ≡ held k ++ held s) (ee : constantsOf vs e ≡ held l ++ held t) where
+  pub shared-parts : sharedConstant vs d e ≡ (oneConstant k l or oneConstant k t) or (oneConstant s l or oneConstant s t)
+  unfolding sharedConstant
+  shared-parts =
+      rw (ed, ee, some-both (λ c. some (eqb c) (held l ++ held t)) (held k) (held s), one-among k l t, one-among s l t)
 
-module _ (k l : Constants) where
-  parts : shared k l ≡ (contained l (k .born) or contained l (k .same)) or contained l (k .told)
-  unfolding shared contained
-  parts = some-listed _ k
+-- ---- the constant that a test gave
 
-  pub share-born : contained l (k .born) ≡ true → true ≡ shared k l
-  unfolding _or_
-  share-born h = rw (parts, h)
+module _ (tested equal x : ℕ) where
+  pub tested-other : (x ≡ tested → ⊥) → testedConstant tested equal (depAt x) ≡ 0
+  unfolding testedConstant
+  tested-other n = byLess x 256 (λ h. rw (dep-name x h, ne-eqb x tested n)) (λ h. rw (dep-constant x h))
 
-  pub share-same : contained l (k .born) ≡ false → contained l (k .same) ≡ true → true ≡ shared k l
-  unfolding _or_
-  share-same g h = rw (parts, g, h)
+  pub tested-constant : 256 ≤ x → testedConstant tested equal (depAt x) ≡ 0
+  unfolding testedConstant
+  tested-constant h = rw (dep-constant x h)
 
-  pub share-told : contained l (k .born) ≡ false → contained l (k .same) ≡ false → contained l (k .told) ≡ shared k l
-  unfolding _or_
-  share-told g h = rw (parts, g, h)
+  pub tested-value : x < 256 → x ≡ tested → testedConstant tested equal (depAt x) ≡ equal
+  unfolding testedConstant
+  tested-value h e = rw (dep-name x h, eq-eqb x tested e)
+
+  pub tested-nothing : equal ≡ 0 → testedConstant tested equal (depAt x) ≡ 0
+  tested-nothing z =
+      byEqual x tested (λ e. byLess x 256 (λ h. tested-value h e ∙ z) tested-constant) tested-other
+
+-- no test gave a constant to both of two
+pub tested-one : (tested equal x y : ℕ) → (x ≡ y → ⊥)
+    → oneConstant (testedConstant tested equal (depAt x)) (testedConstant tested equal (depAt y)) ≡ false
+tested-one tested equal x y n =
+    byEqual x tested (λ e. rw (tested-other tested equal y (λ q. n (omega arith))) (one-of-none _))
+    (λ q. sym (one-none _ _ (tested-other tested equal x q)))
+
+-- what a test adds to the constants of a dependency
+pub pick-same : (b : Bool) (n : ℕ) → pick b n n ≡ n
+pick-same true n = refl
+pick-same false n = refl
+
+module _ (words frames constants : List ℕ) (tested equal : ℕ) where
+  tested-adds : (d : Dep) → constantsOf (valuesOf words frames constants tested equal) d
+      ≡ constantsOf (valuesOf words frames constants 0 0) d ++ held (testedConstant tested equal d)
+  unfolding constantsOf testedConstant typed
+  tested-adds (name v) = simp (pick-same, append-nil)
+  tested-adds (con c) = refl
+
+  pub constants-are : (x k : ℕ) → held k ≡ constantsOf (valuesOf words frames constants 0 0) (depAt x)
+      → constantsOf (valuesOf words frames constants tested equal) (depAt x) ≡ held k ++ held (testedConstant tested equal (depAt x))
+  constants-are x k e = tested-adds (depAt x) ∙ rw e

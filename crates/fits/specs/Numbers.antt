@@ -1,15 +1,16 @@
--- The values of a reading as arrays of numbers hold them: frames as birthplaces, a dependency as one number, the known constants
--- of a value as three.
-use mathlib.Core.Bool.{Bool}
-use mathlib.Core.List.{List, map, _++_}
+-- The values of a reading as arrays of numbers hold them: frames as birthplaces, a dependency as one number, a known constant c as
+-- c + 1.
+use mathlib.Core.Bool.{Bool, true, false}
+use mathlib.Core.List.{List, map}
 use Prim.Native.Nat.{ℕ, _+_, _-_, _*_, _%_}
 use lib.Dec.{ltb, eqb}
 use lib.ListN.{getD}
+use denote.Ref.{RefT, now}
+use denote.Triple.Both.{Both}
 use Rattle.model.specs.Question.{_or_, pick}
 use Rattle.model.specs.Types.{Dep, name, con, depOf, renameDep, Ty, typeOf, rename}
-use Rattle.model.specs.Table.{Tables}
-use Rattle.model.specs.Reading.{Values, held, some, tagOf, beyond, fits}
-use Rattle.fits.specs.declared.Constants.{Constants}
+use Rattle.model.specs.Table.{Tables, tablesOf}
+use Rattle.model.specs.Reading.{Values, held, constantsOf, some, tagOf, beyond, isTagged, isPresent, fits}
 
 -- A frame is held as the birthplace of its eight names. There are 32 birthplaces, so that every name is below 256.
 abbrev pub frameOf : ℕ → ℕ
@@ -21,6 +22,18 @@ framesOf l = map frameOf l
 abbrev pub valuesOf : List ℕ → List ℕ → List ℕ → ℕ → ℕ → Values
 valuesOf words frames constants tested equal =
     record { words = words; frames = framesOf frames; constants = constants; tested = tested; equal = equal }
+
+-- an array or a table that a function is lent, at its entry and at its exit
+abbrev pub Lent : Type 0
+Lent = Both (RefT (List ℕ)) (RefT (List ℕ))
+
+-- the tables with the tags that are lent, and the values that the lent arrays make
+abbrev pub tablesIn : List ℕ → Lent → Tables
+tablesIn types tags = tablesOf types (now (tags .entry))
+
+abbrev pub valuesIn : Lent → Lent → Lent → ℕ → ℕ → Values
+valuesIn words frames constants tested equal =
+    valuesOf (now (words .entry)) (now (frames .entry)) (now (constants .entry)) tested equal
 
 -- a number below 256 is a name, and 256 + c the constant c
 unfoldable pub depAt : ℕ → Dep
@@ -37,22 +50,44 @@ namedOf names x = renameDep (λ i. getD names i 0) (depOf x)
 abbrev pub meant : List ℕ → ℕ → Ty
 meant names w = rename (λ i. getD names i 0) (typeOf w)
 
--- each constant c is held as c + 1, and 0 is none
-unfoldable pub listed : Constants → List ℕ
-listed k = held (k .born) ++ held (k .same) ++ held (k .told)
+-- ---- known constants
 
--- the constant that n holds is among those of k
-unfoldable pub contained : Constants → ℕ → Bool
-contained k n = some (λ c. some (eqb c) (listed k)) (held n)
+-- 01: 'Opcode 11 taken: ra is known to be the constant'
+unfoldable pub testedConstant : ℕ → ℕ → Dep → ℕ
+testedConstant tested equal (name v) = pick (eqb v tested) equal 0
+testedConstant tested equal (con c) = 0
 
--- k and l have a constant in common
-unfoldable pub shared : Constants → Constants → Bool
-shared k l = some (λ c. some (eqb c) (listed l)) (listed k)
+-- k and l hold one constant
+unfoldable pub oneConstant : ℕ → ℕ → Bool
+oneConstant k l = some (λ c. some (eqb c) (held l)) (held k)
 
--- the value at place i fits its type word
-unfoldable pub placeFits : Tables → Values → List ℕ → List ℕ → ℕ → Bool
-placeFits 𝒯 vs row names i = fits 𝒯 vs (getD names i 0) (meant names (getD row i 0))
+-- 01: 'have the same known constant'
+unfoldable pub sharedConstant : Values → Dep → Dep → Bool
+sharedConstant vs x y = some (λ c. some (eqb c) (constantsOf vs y)) (constantsOf vs x)
 
 -- 01: 'a tag of T or beyond the table'
 abbrev pub tagOrBeyond : Tables → ℕ → ℕ → Bool
 tagOrBeyond 𝒯 t k = tagOf 𝒯 t k or beyond 𝒯 k
+
+-- ---- Tagged, and Present
+
+-- 01: 'is Ref T, In T or Maybe T where d is a known tag of T'; for Present without Maybe
+unfoldable pub byRecord : Bool → ℕ → Bool
+byRecord true kind = eqb kind 1 or eqb kind 8
+byRecord false kind = eqb kind 1 or eqb kind 8 or eqb kind 2
+
+-- 01: 'is Tagged or Present of a known equal dependency'; for Present without Tagged
+unfoldable pub byOwnTag : Bool → ℕ → Bool
+byOwnTag true kind = eqb kind 4
+byOwnTag false kind = eqb kind 4 or eqb kind 3
+
+-- the value is so, known 0 apart
+unfoldable pub tagFits : Tables → Values → Bool → Dep → Ty → Bool
+tagFits 𝒯 vs true d ty = isPresent 𝒯 vs d ty
+tagFits 𝒯 vs false d ty = isTagged 𝒯 vs d ty
+
+-- ---- rows
+
+-- the value at place i fits its type word
+unfoldable pub placeFits : Tables → Values → List ℕ → List ℕ → ℕ → Bool
+placeFits 𝒯 vs row names i = fits 𝒯 vs (getD names i 0) (meant names (getD row i 0))

@@ -2,7 +2,7 @@
 //
 // A value is a name below 256; a dependency is a name, or 256 and a constant. A constant c is held as c + 1, and 0 is none.
 ghost use mathlib.Core.Path.{_≡_};
-ghost use mathlib.Core.List.{List};
+ghost use mathlib.Core.List.{List, _++_};
 ghost use mathlib.Core.Bool.{true, false};
 ghost use mathlib.Core.Logic.{_⊎_};
 ghost use Prim.Native.Nat.{ℕ, _+_, _/_, _≤_, _<_};
@@ -10,19 +10,11 @@ ghost use lib.ListN.{length, getD};
 ghost use Rattle.model.specs.Types.{typeOf, rename};
 ghost use Rattle.model.specs.Table.{tablesOf};
 ghost use Rattle.model.specs.Reading.{birthplace, held, sameConstant, constantsOf, some, saysSame};
-ghost use Rattle.model.specs.Reading.{typed, knownEqual, tagOf, beyond, knownTag, knownZero};
-ghost use Rattle.model.specs.Reading.{isRef, isMaybe, isTagged, isPresent, isSpan, fits, rowFits};
-ghost use Rattle.model.specs.Reading.{firstTag, referenceOf};
-ghost use Rattle.fits.specs.Numbers.{framesOf, valuesOf, depAt, siblingOf, namedOf};
-ghost use Rattle.fits.specs.Numbers.{meant, listed, contained, shared, placeFits, tagOrBeyond};
+ghost use Rattle.model.specs.Reading.{typed, knownEqual, tagOf, knownTag, knownZero};
+ghost use Rattle.model.specs.Reading.{isRef, isMaybe, fits, rowFits, firstTag, referenceOf};
+ghost use Rattle.fits.specs.Numbers.{framesOf, valuesOf, tablesIn, valuesIn, depAt, siblingOf, namedOf, meant};
+ghost use Rattle.fits.specs.Numbers.{testedConstant, oneConstant, sharedConstant, tagOrBeyond, byRecord, byOwnTag, tagFits, placeFits};
 use model::Reference;
-
-// The known constants of a value: by opcode 1, by its type Same, by a taken opcode 11.
-pub struct Constants {
-    pub born: u32,
-    pub same: u32,
-    pub told: u32,
-}
 
 // A byte as a word, and as a place of an array of 256.
 pub fn wide(x: u8) -> u32
@@ -93,65 +85,68 @@ fn same_constant(w: u32) -> u32
     x - 7
 }
 
-// The known constants of x.
-fn constants_of(
+// The known constant of x, 0 for none: opcode 1's for a value of type Any, that of Same for another.
+fn constant_of(words: &[u32; 256], frames: &[u8; 32], constants: &[u32; 32], x: u32) -> u32
+    ensures { λ r. ⌜ held r ≡ constantsOf (valuesIn words frames constants 0 0) (depAt x) ⌝ }
+{
+    if 256 <= x {
+        return x - 255;
+    }
+    let w = words[x as usize];
+    if w == 0 {
+        return constants[(x / 8) as usize];
+    }
+    same_constant(w)
+}
+
+// The constant that a taken opcode 11 adds to those of x, 0 for none.
+fn tested_constant(tested: u32, equal: u32, x: u32) -> u32
+    ensures { λ r. ⌜ r ≡ testedConstant tested equal (depAt x) ⌝ }
+{
+    if x != tested {
+        return 0;
+    }
+    if 256 <= x {
+        return 0;
+    }
+    equal
+}
+
+// Whether k and l hold one constant.
+fn one_constant(k: u32, l: u32) -> bool
+    ensures { λ r. ⌜ r ≡ oneConstant k l ⌝ }
+{
+    if k == 0 {
+        return false;
+    }
+    k == l
+}
+
+// Whether x and y, which are not one, have a constant in common.
+fn share_constant(
     words: &[u32; 256],
+    frames: &[u8; 32],
     constants: &[u32; 32],
     tested: u32,
     equal: u32,
     x: u32,
-) -> Constants
-    ensures { λ r. ⌜ ((frames : List ℕ)
-        → listed r ≡ constantsOf (valuesOf (now (words .entry)) frames (now (constants .entry)) tested equal) (depAt x)) ⌝ }
+    y: u32,
+) -> bool
+    requires { ⌜ (x ≡ y → ⊥) ⌝ }
+    ensures { λ r. ⌜ r ≡ sharedConstant (valuesIn words frames constants tested equal) (depAt x) (depAt y) ⌝ }
 {
-    if 256 <= x {
-        return Constants {
-            born: x - 255,
-            same: 0,
-            told: 0,
-        };
+    let k = constant_of(words, frames, constants, x);
+    let l = constant_of(words, frames, constants, y);
+    if one_constant(k, l) {
+        return true;
     }
-    let born = constants[(x / 8) as usize];
-    let same = same_constant(words[x as usize]);
-    if x == tested {
-        return Constants {
-            born: born,
-            same: same,
-            told: equal,
-        };
-    }
-    Constants {
-        born: born,
-        same: same,
-        told: 0,
-    }
-}
-
-fn contains(k: Constants, n: u32) -> bool
-    ensures { λ r. ⌜ r ≡ contained k n ⌝ }
-{
-    if n == 0 {
+    if equal == 0 {
         return false;
     }
-    if k.born == n {
+    if one_constant(tested_constant(tested, equal, x), l) {
         return true;
     }
-    if k.same == n {
-        return true;
-    }
-    k.told == n
-}
-
-fn share(k: Constants, l: Constants) -> bool
-    ensures { λ r. ⌜ r ≡ shared k l ⌝ }
-{
-    if contains(l, k.born) {
-        return true;
-    }
-    if contains(l, k.same) {
-        return true;
-    }
-    contains(l, k.told)
+    one_constant(k, tested_constant(tested, equal, y))
 }
 
 // ---- known equal
@@ -171,6 +166,29 @@ fn says_same(words: &[u32; 256], frames: &[u8; 32], x: u32, y: u32) -> bool
     dependency(frames, x, word::first_dependency(w)) == y
 }
 
+// Whether x and y, which are not one, are known equal.
+fn joined(
+    words: &[u32; 256],
+    frames: &[u8; 32],
+    constants: &[u32; 32],
+    tested: u32,
+    equal: u32,
+    x: u32,
+    y: u32,
+) -> bool
+    requires { ⌜ (x ≡ y → ⊥) ⌝ }
+    ensures { λ r. ⌜ r ≡ knownEqual (valuesIn words frames constants tested equal) (depAt x) (depAt y) ⌝ }
+{
+    if share_constant(words, frames, constants, tested, equal, x, y) {
+        return true;
+    }
+    if says_same(words, frames, x, y) {
+        return true;
+    }
+    says_same(words, frames, y, x)
+}
+
+// Whether x and y are known equal. Most are one value, and that is asked first.
 pub fn known_equal(
     words: &[u32; 256],
     frames: &[u8; 32],
@@ -180,27 +198,19 @@ pub fn known_equal(
     x: u32,
     y: u32,
 ) -> bool
-    ensures { λ r. ⌜ r ≡ knownEqual (valuesOf (now (words .entry)) (now (frames .entry)) (now (constants .entry)) tested equal) (depAt x) (depAt y) ⌝ }
+    ensures { λ r. ⌜ r ≡ knownEqual (valuesIn words frames constants tested equal) (depAt x) (depAt y) ⌝ }
 {
     if x == y {
         return true;
     }
-    let k = constants_of(words, constants, tested, equal, x);
-    let l = constants_of(words, constants, tested, equal, y);
-    if share(k, l) {
-        return true;
-    }
-    if says_same(words, frames, x, y) {
-        return true;
-    }
-    says_same(words, frames, y, x)
+    joined(words, frames, constants, tested, equal, x, y)
 }
 
 // ---- tags
 
 // Whether the constant that n holds is a tag of t.
 fn is_tag(tags: &[u32], n: u32, t: u32) -> bool
-    ensures { λ r. ⌜ ((types : List ℕ) → r ≡ some (tagOf (tablesOf types (now (tags .entry))) t) (held n)) ⌝ }
+    ensures { λ r. ⌜ ((types : List ℕ) → r ≡ some (tagOf (tablesIn types tags) t) (held n)) ⌝ }
 {
     if n == 0 {
         return false;
@@ -214,7 +224,7 @@ fn is_tag(tags: &[u32], n: u32, t: u32) -> bool
 
 // Whether it is a tag of t or beyond the table.
 fn is_tag_or_beyond(tags: &[u32], n: u32, t: u32) -> bool
-    ensures { λ r. ⌜ ((types : List ℕ) → r ≡ some (tagOrBeyond (tablesOf types (now (tags .entry))) t) (held n)) ⌝ }
+    ensures { λ r. ⌜ ((types : List ℕ) → r ≡ some (tagOrBeyond (tablesIn types tags) t) (held n)) ⌝ }
 {
     if n == 0 {
         return false;
@@ -230,54 +240,61 @@ fn is_tag_or_beyond(tags: &[u32], n: u32, t: u32) -> bool
 fn known_tag(
     tags: &[u32],
     words: &[u32; 256],
+    frames: &[u8; 32],
     constants: &[u32; 32],
     tested: u32,
     equal: u32,
     x: u32,
     t: u32,
 ) -> bool
-    ensures { λ r. ⌜ ((types frames : List ℕ)
-        → r ≡ knownTag (tablesOf types (now (tags .entry))) (valuesOf (now (words .entry)) frames (now (constants .entry)) tested equal) t (depAt x)) ⌝ }
+    ensures { λ r. ⌜ ((types : List ℕ)
+        → r ≡ knownTag (tablesIn types tags) (valuesIn words frames constants tested equal) t (depAt x)) ⌝ }
 {
-    let k = constants_of(words, constants, tested, equal, x);
-    if is_tag(tags, k.born, t) {
+    let k = constant_of(words, frames, constants, x);
+    if is_tag(tags, k, t) {
         return true;
     }
-    if is_tag(tags, k.same, t) {
-        return true;
-    }
-    is_tag(tags, k.told, t)
+    is_tag(tags, tested_constant(tested, equal, x), t)
 }
 
 // Whether x has a known constant that is a tag of t or beyond the table.
 fn known_tag_or_beyond(
     tags: &[u32],
     words: &[u32; 256],
+    frames: &[u8; 32],
     constants: &[u32; 32],
     tested: u32,
     equal: u32,
     x: u32,
     t: u32,
 ) -> bool
-    ensures { λ r. ⌜ ((types frames : List ℕ)
-        → r ≡ some (tagOrBeyond (tablesOf types (now (tags .entry))) t) (constantsOf (valuesOf (now (words .entry)) frames (now (constants .entry)) tested equal) (depAt x))) ⌝ }
+    ensures { λ r. ⌜ ((types : List ℕ)
+        → r ≡ some (tagOrBeyond (tablesIn types tags) t) (constantsOf (valuesIn words frames constants tested equal) (depAt x))) ⌝ }
 {
-    let k = constants_of(words, constants, tested, equal, x);
-    if is_tag_or_beyond(tags, k.born, t) {
+    let k = constant_of(words, frames, constants, x);
+    if is_tag_or_beyond(tags, k, t) {
         return true;
     }
-    if is_tag_or_beyond(tags, k.same, t) {
-        return true;
-    }
-    is_tag_or_beyond(tags, k.told, t)
+    is_tag_or_beyond(tags, tested_constant(tested, equal, x), t)
 }
 
 // Whether the value v is known 0.
-fn known_zero(words: &[u32; 256], constants: &[u32; 32], tested: u32, equal: u32, v: u8) -> bool
-    ensures { λ r. ⌜ ((types tags frames : List ℕ)
-        → r ≡ knownZero (tablesOf types tags) (valuesOf (now (words .entry)) frames (now (constants .entry)) tested equal) v) ⌝ }
+fn known_zero(
+    words: &[u32; 256],
+    frames: &[u8; 32],
+    constants: &[u32; 32],
+    tested: u32,
+    equal: u32,
+    v: u8,
+) -> bool
+    ensures { λ r. ⌜ ((types tags : List ℕ)
+        → r ≡ knownZero (tablesOf types tags) (valuesIn words frames constants tested equal) v) ⌝ }
 {
-    contains(constants_of(words, constants, tested, equal, v as u32), 1)
+    let x = v as u32;
+    if constant_of(words, frames, constants, x) == 1 {
+        return true;
+    }
+    tested_constant(tested, equal, x) == 1
 }
 
 // ---- fits
@@ -293,7 +310,8 @@ fn is_ref(
     v: u8,
     t: u32,
 ) -> bool
-    ensures { λ r. ⌜ ((types : List ℕ) → r ≡ isRef (tablesOf types (now (tags .entry))) (valuesOf (now (words .entry)) (now (frames .entry)) (now (constants .entry)) tested equal) t (typed (valuesOf (now (words .entry)) (now (frames .entry)) (now (constants .entry)) tested equal) v)) ⌝ }
+    ensures { λ r. ⌜ ((types : List ℕ) → r ≡ isRef (tablesIn types tags) (valuesIn words frames constants tested equal) t
+        (typed (valuesIn words frames constants tested equal) v)) ⌝ }
 {
     let w = words[v as usize];
     let kind = word::kind(w);
@@ -307,7 +325,7 @@ fn is_ref(
         return false;
     }
     let x = dependency(frames, v as u32, word::first_dependency(w));
-    known_tag(tags, words, constants, tested, equal, x, t)
+    known_tag(tags, words, frames, constants, tested, equal, x, t)
 }
 
 // Whether the value v is Maybe t, or Tagged with a tag of t or beyond the table.
@@ -321,7 +339,8 @@ fn is_maybe(
     v: u8,
     t: u32,
 ) -> bool
-    ensures { λ r. ⌜ ((types : List ℕ) → r ≡ isMaybe (tablesOf types (now (tags .entry))) (valuesOf (now (words .entry)) (now (frames .entry)) (now (constants .entry)) tested equal) t (typed (valuesOf (now (words .entry)) (now (frames .entry)) (now (constants .entry)) tested equal) v)) ⌝ }
+    ensures { λ r. ⌜ ((types : List ℕ) → r ≡ isMaybe (tablesIn types tags) (valuesIn words frames constants tested equal) t
+        (typed (valuesIn words frames constants tested equal) v)) ⌝ }
 {
     let w = words[v as usize];
     let kind = word::kind(w);
@@ -332,84 +351,7 @@ fn is_maybe(
         return false;
     }
     let x = dependency(frames, v as u32, word::first_dependency(w));
-    known_tag_or_beyond(tags, words, constants, tested, equal, x, t)
-}
-
-// Whether the value v is Present y, or Ref t or In t where y is a known tag of t.
-fn is_present(
-    tags: &[u32],
-    words: &[u32; 256],
-    frames: &[u8; 32],
-    constants: &[u32; 32],
-    tested: u32,
-    equal: u32,
-    v: u8,
-    y: u32,
-) -> bool
-    ensures { λ r. ⌜ ((types : List ℕ) → r ≡ isPresent (tablesOf types (now (tags .entry))) (valuesOf (now (words .entry)) (now (frames .entry)) (now (constants .entry)) tested equal) (depAt y) (typed (valuesOf (now (words .entry)) (now (frames .entry)) (now (constants .entry)) tested equal) v)) ⌝ }
-{
-    let w = words[v as usize];
-    let kind = word::kind(w);
-    if kind == word::PRESENT {
-        let x = dependency(frames, v as u32, word::first_dependency(w));
-        return known_equal(words, frames, constants, tested, equal, x, y);
-    }
-    if kind == word::REF {
-        return known_tag(
-            tags,
-            words,
-            constants,
-            tested,
-            equal,
-            y,
-            word::record_type(w),
-        );
-    }
-    if kind != word::IN {
-        return false;
-    }
-    known_tag(
-        tags,
-        words,
-        constants,
-        tested,
-        equal,
-        y,
-        word::record_type(w),
-    )
-}
-
-// The same, or the value v is Tagged y, or Maybe t where y is a known tag of t.
-fn is_tagged(
-    tags: &[u32],
-    words: &[u32; 256],
-    frames: &[u8; 32],
-    constants: &[u32; 32],
-    tested: u32,
-    equal: u32,
-    v: u8,
-    y: u32,
-) -> bool
-    ensures { λ r. ⌜ ((types : List ℕ) → r ≡ isTagged (tablesOf types (now (tags .entry))) (valuesOf (now (words .entry)) (now (frames .entry)) (now (constants .entry)) tested equal) (depAt y) (typed (valuesOf (now (words .entry)) (now (frames .entry)) (now (constants .entry)) tested equal) v)) ⌝ }
-{
-    let w = words[v as usize];
-    let kind = word::kind(w);
-    if kind == word::TAGGED {
-        let x = dependency(frames, v as u32, word::first_dependency(w));
-        return known_equal(words, frames, constants, tested, equal, x, y);
-    }
-    if kind == word::MAYBE {
-        return known_tag(
-            tags,
-            words,
-            constants,
-            tested,
-            equal,
-            y,
-            word::record_type(w),
-        );
-    }
-    is_present(tags, words, frames, constants, tested, equal, v, y)
+    known_tag_or_beyond(tags, words, frames, constants, tested, equal, x, t)
 }
 
 // Whether the value v fits the type word w, which is Run, From or In.
@@ -424,7 +366,8 @@ fn is_span(
     names: &[u8; 8],
 ) -> bool
     requires { ⌜ 6 ≤ w / 16777216 ⌝ }
-    ensures { λ r. ⌜ ((types tags : List ℕ) → r ≡ fits (tablesOf types tags) (valuesOf (now (words .entry)) (now (frames .entry)) (now (constants .entry)) tested equal) v (meant (now (names .entry)) w)) ⌝ }
+    ensures { λ r. ⌜ ((types tags : List ℕ)
+        → r ≡ fits (tablesOf types tags) (valuesIn words frames constants tested equal) v (meant (now (names .entry)) w)) ⌝ }
 {
     let own = words[v as usize];
     if word::kind(own) < word::kind(w) {
@@ -471,7 +414,8 @@ fn fits_pointer(
     names: &[u8; 8],
 ) -> bool
     requires { ⌜ (1 ≤ w / 16777216) × (w / 16777216 ≤ 2) ⌝ }
-    ensures { λ r. ⌜ ((types : List ℕ) → r ≡ fits (tablesOf types (now (tags .entry))) (valuesOf (now (words .entry)) (now (frames .entry)) (now (constants .entry)) tested equal) v (meant (now (names .entry)) w)) ⌝ }
+    ensures { λ r. ⌜ ((types : List ℕ)
+        → r ≡ fits (tablesIn types tags) (valuesIn words frames constants tested equal) v (meant (now (names .entry)) w)) ⌝ }
 {
     let t = word::record_type(w);
     if is_ref(tags, words, frames, constants, tested, equal, v, t) {
@@ -480,10 +424,67 @@ fn fits_pointer(
     if word::kind(w) == word::REF {
         return false;
     }
-    if known_zero(words, constants, tested, equal, v) {
+    if known_zero(words, frames, constants, tested, equal, v) {
         return true;
     }
     is_maybe(tags, words, frames, constants, tested, equal, v, t)
+}
+
+// Whether a value of this kind fits Tagged, or Present, if the tag wanted is one of its record type: Ref, In, and for Tagged Maybe.
+fn by_record(kind: u32, present: bool) -> bool
+    ensures { λ r. ⌜ r ≡ byRecord present kind ⌝ }
+{
+    if kind == word::REF {
+        return true;
+    }
+    if kind == word::IN {
+        return true;
+    }
+    if present {
+        return false;
+    }
+    kind == word::MAYBE
+}
+
+// Whether it does so if its own tag is known equal to the one wanted: Present, and for Tagged Tagged.
+fn by_own_tag(kind: u32, present: bool) -> bool
+    ensures { λ r. ⌜ r ≡ byOwnTag present kind ⌝ }
+{
+    if kind == word::PRESENT {
+        return true;
+    }
+    if present {
+        return false;
+    }
+    kind == word::TAGGED
+}
+
+// Whether the value v is Tagged y or Present y, known 0 apart: by its own kind first.
+fn tag_fits(
+    tags: &[u32],
+    words: &[u32; 256],
+    frames: &[u8; 32],
+    constants: &[u32; 32],
+    tested: u32,
+    equal: u32,
+    v: u8,
+    y: u32,
+    present: bool,
+) -> bool
+    ensures { λ r. ⌜ ((types : List ℕ) → r ≡ tagFits (tablesIn types tags) (valuesIn words frames constants tested equal) present (depAt y)
+        (typed (valuesIn words frames constants tested equal) v)) ⌝ }
+{
+    let own = words[v as usize];
+    let kind = word::kind(own);
+    if by_record(kind, present) {
+        let t = word::record_type(own);
+        return known_tag(tags, words, frames, constants, tested, equal, y, t);
+    }
+    if !by_own_tag(kind, present) {
+        return false;
+    }
+    let x = dependency(frames, v as u32, word::first_dependency(own));
+    known_equal(words, frames, constants, tested, equal, x, y)
 }
 
 // Whether the value v fits the type word w, which is Tagged or Present.
@@ -499,16 +500,18 @@ fn fits_tagged(
     names: &[u8; 8],
 ) -> bool
     requires { ⌜ (3 ≤ w / 16777216) × (w / 16777216 ≤ 4) ⌝ }
-    ensures { λ r. ⌜ ((types : List ℕ) → r ≡ fits (tablesOf types (now (tags .entry))) (valuesOf (now (words .entry)) (now (frames .entry)) (now (constants .entry)) tested equal) v (meant (now (names .entry)) w)) ⌝ }
+    ensures { λ r. ⌜ ((types : List ℕ)
+        → r ≡ fits (tablesIn types tags) (valuesIn words frames constants tested equal) v (meant (now (names .entry)) w)) ⌝ }
 {
     let y = named(names, word::first_dependency(w));
-    if word::kind(w) == word::PRESENT {
-        return is_present(tags, words, frames, constants, tested, equal, v, y);
-    }
-    if known_zero(words, constants, tested, equal, v) {
+    let present = word::kind(w) == word::PRESENT;
+    if tag_fits(tags, words, frames, constants, tested, equal, v, y, present) {
         return true;
     }
-    is_tagged(tags, words, frames, constants, tested, equal, v, y)
+    if present {
+        return false;
+    }
+    known_zero(words, frames, constants, tested, equal, v)
 }
 
 // Whether the value v fits the type word w, read with names for its names. Any is by far the most common, and comes first.
@@ -523,7 +526,8 @@ fn value_fits(
     w: u32,
     names: &[u8; 8],
 ) -> bool
-    ensures { λ r. ⌜ ((types : List ℕ) → r ≡ fits (tablesOf types (now (tags .entry))) (valuesOf (now (words .entry)) (now (frames .entry)) (now (constants .entry)) tested equal) v (meant (now (names .entry)) w)) ⌝ }
+    ensures { λ r. ⌜ ((types : List ℕ)
+        → r ≡ fits (tablesIn types tags) (valuesIn words frames constants tested equal) v (meant (now (names .entry)) w)) ⌝ }
 {
     let kind = word::kind(w);
     if kind == word::ANY {
@@ -536,8 +540,12 @@ fn value_fits(
         return fits_tagged(tags, words, frames, constants, tested, equal, v, w, names);
     }
     if kind == word::SAME {
+        let x = v as u32;
         let y = named(names, word::first_dependency(w));
-        return known_equal(words, frames, constants, tested, equal, v as u32, y);
+        if x == y {
+            return true;
+        }
+        return joined(words, frames, constants, tested, equal, x, y);
     }
     is_span(words, frames, constants, tested, equal, v, w, names)
 }
@@ -555,7 +563,8 @@ pub fn field_fits(
     names: &[u8; 8],
 ) -> bool
     requires { ⌜ (k < 8) × (k < length (now row)) ⌝ }
-    ensures { λ r. ⌜ ((types : List ℕ) → r ≡ placeFits (tablesOf types (now (tags .entry))) (valuesOf (now (words .entry)) (now (frames .entry)) (now (constants .entry)) tested equal) (now (row .entry)) (now (names .entry)) k) ⌝ }
+    ensures { λ r. ⌜ ((types : List ℕ)
+        → r ≡ placeFits (tablesIn types tags) (valuesIn words frames constants tested equal) (now (row .entry)) (now (names .entry)) k) ⌝ }
 {
     value_fits(
         tags,
@@ -583,7 +592,8 @@ pub fn row_fits(
     names: &[u8; 8],
 ) -> bool
     requires { ⌜ (n ≤ 8) × (n ≤ length (now row)) ⌝ }
-    ensures { λ r. ⌜ ((types : List ℕ) → r ≡ rowFits (tablesOf types (now (tags .entry))) (valuesOf (now (words .entry)) (now (frames .entry)) (now (constants .entry)) tested equal) n (now (row .entry)) (now (names .entry))) ⌝ }
+    ensures { λ r. ⌜ ((types : List ℕ)
+        → r ≡ rowFits (tablesIn types tags) (valuesIn words frames constants tested equal) n (now (row .entry)) (now (names .entry))) ⌝ }
 {
     let mut i = 0;
     while i < n {
@@ -599,7 +609,8 @@ pub fn row_fits(
 
 // Whether n holds a constant that is a tag.
 fn is_listed(tags: &[u32], n: u32) -> bool
-    ensures { λ r. ⌜ (r ≡ true → (0 < n) × (n ≤ length (now (tags .entry)))) × (r ≡ false → (n ≡ 0) ⊎ (length (now (tags .entry)) < n)) ⌝ }
+    ensures { λ r. ⌜ (r ≡ true → (0 < n) × (n ≤ length (now (tags .entry))))
+        × (r ≡ false → (n ≡ 0) ⊎ (length (now (tags .entry)) < n)) ⌝ }
 {
     if n == 0 {
         return false;
@@ -607,21 +618,19 @@ fn is_listed(tags: &[u32], n: u32) -> bool
     (n as usize) <= tags.len()
 }
 
-// The type of the first of the constants that is a tag.
-fn first_tag(tags: &[u32], k: Constants) -> Reference
-    ensures { λ r. ⌜ ((types : List ℕ) → r ≡ firstTag (tablesOf types (now (tags .entry))) (listed k)) ⌝ }
+// The type of the first of the two constants that is a tag.
+fn first_tag(tags: &[u32], k: u32, l: u32) -> Reference
+    ensures { λ r. ⌜ ((types : List ℕ) → r ≡ firstTag (tablesIn types tags) (held k ++ held l)) ⌝ }
 {
-    let born = k.born;
-    if is_listed(tags, born) {
-        return Reference::To(tags[(born - 1) as usize]);
+    if is_listed(tags, k) {
+        let i = (k - 1) as usize;
+        let t = tags[i];
+        return Reference::To(t);
     }
-    let same = k.same;
-    if is_listed(tags, same) {
-        return Reference::To(tags[(same - 1) as usize]);
-    }
-    let told = k.told;
-    if is_listed(tags, told) {
-        return Reference::To(tags[(told - 1) as usize]);
+    if is_listed(tags, l) {
+        let j = (l - 1) as usize;
+        let u = tags[j];
+        return Reference::To(u);
     }
     Reference::Nothing
 }
@@ -636,7 +645,8 @@ pub fn reference(
     equal: u32,
     v: u8,
 ) -> Reference
-    ensures { λ r. ⌜ ((types : List ℕ) → r ≡ referenceOf (tablesOf types (now (tags .entry))) (valuesOf (now (words .entry)) (now (frames .entry)) (now (constants .entry)) tested equal) (typed (valuesOf (now (words .entry)) (now (frames .entry)) (now (constants .entry)) tested equal) v)) ⌝ }
+    ensures { λ r. ⌜ ((types : List ℕ) → r ≡ referenceOf (tablesIn types tags) (valuesIn words frames constants tested equal)
+        (typed (valuesIn words frames constants tested equal) v)) ⌝ }
 {
     let w = words[v as usize];
     let kind = word::kind(w);
@@ -650,5 +660,6 @@ pub fn reference(
         return Reference::Nothing;
     }
     let x = dependency(frames, v as u32, word::first_dependency(w));
-    first_tag(tags, constants_of(words, constants, tested, equal, x))
+    let k = constant_of(words, frames, constants, x);
+    first_tag(tags, k, tested_constant(tested, equal, x))
 }

@@ -16,10 +16,11 @@ use Rattle.model.specs.Table.{Tables, tablesOf, Routine, routineOf}
 use Rattle.model.specs.Machine.{Instruction, plain, end, malformed}
 use Rattle.model.specs.Reading.{Values, birthplace, typed, constantsOf, firstTag, referenceOf, Reading}
 use Rattle.model.specs.Check.{valueIn, readInstruction, readingAt, referenceAfter, given}
-use Rattle.model.specs.Rules.{Constant, constant-itself, by-opcode-1, by-type-same, by-taken-11, TagOf, KnownTag, Fits, ref-ref, ref-in, ref-present}
+use Rattle.model.specs.Rules.{Constant, constant-itself, by-opcode-1, by-type-same, by-taken-11, TagOf, KnownTag, Fits, ref-ref, ref-in}
+use Rattle.model.specs.Rules.{ref-present}
 use Rattle.model.proofs.Logic.{byTest, either, ask-ok, then-ok, passed-then, ok-same, not-ok, not-true}
 use Rattle.model.proofs.Lists.{Member, first, later}
-use Rattle.model.proofs.RulesDecide.{constant-known, known-constant}
+use Rattle.model.proofs.RulesDecide.{own-is, constant-known, known-constant}
 use Rattle.model.proofs.Tidy.{TidyValues, Tidy, tidy-on, plain-tidy, entry-tidy}
 use Rattle.model.proofs.Rows.{eight-words, words-eight}
 
@@ -67,9 +68,9 @@ module _ (𝒯 : Tables) (vs : Values) where
     pub one-constant : (x : Dep) (c d : ℕ) → Constant 𝒯 vs x c → Constant 𝒯 vs x d → c ≡ d
     one-constant (con x) c d constant-itself constant-itself = refl
     one-constant (name v) c d (by-opcode-1 e) (by-opcode-1 f) = omega arith
-    one-constant (name v) c d (by-opcode-1 e) (by-type-same f) = absurd (type-or-opcode v c d e f)
+    one-constant (name v) c d (by-opcode-1 e) (by-type-same f) = absurd (type-or-opcode v c d (own-is vs v c e) f)
     one-constant (name v) c d (by-opcode-1 e) (by-taken-11 h f) = absurd (let z = T .untested in omega arith)
-    one-constant (name v) c d (by-type-same e) (by-opcode-1 f) = absurd (type-or-opcode v d c f e)
+    one-constant (name v) c d (by-type-same e) (by-opcode-1 f) = absurd (type-or-opcode v d c (own-is vs v d f) e)
     one-constant (name v) c d (by-type-same e) (by-type-same f) = same-constant (sym e ∙ f)
     one-constant (name v) c d (by-type-same e) (by-taken-11 h f) = absurd (let z = T .untested in omega arith)
     one-constant (name v) c d (by-taken-11 h e) (by-opcode-1 f) = absurd (let z = T .untested in omega arith)
@@ -148,7 +149,8 @@ module _ (types tags blocks code : List ℕ) where
   abbrev P′ : Routine
   P′ = routineOf blocks code
 
-  instruction-tidy : (b j : ℕ) (x : Instruction) (st st' : Reading) → P′ .long b ≤ 32 → j < P′ .long b → Tidy st (suc j) → readInstruction 𝒯′ P′ b j x st ≡ ok st' → Tidy st' (suc (suc j))
+  instruction-tidy : (b j : ℕ) (x : Instruction) (st st' : Reading) → P′ .long b ≤ 32 → j < P′ .long b → Tidy st (suc j)
+      → readInstruction 𝒯′ P′ b j x st ≡ ok st' → Tidy st' (suc (suc j))
   unfolding readInstruction
   instruction-tidy b j (plain x) st st' m l T q =
       let (p, q₁) = ask-ok _ _ _ q in

@@ -48,10 +48,14 @@ sameConstant (same (name v)) = []
 sameConstant (same (con c)) = c ∷ []
 sameConstant (span k t d e) = []
 
--- 01: 'opcode 1 gives a value with known constant c'; 'Opcode 11 taken: ra is known to be the constant'
+-- 01: 'opcode 1 gives a value with known constant c, type Any'
+abbrev pub ownConstant : Values → ℕ → ℕ
+ownConstant vs v = pick (eqb (getD (vs .words) v 0) 0) (getD (vs .constants) (birthplace v) 0) 0
+
+-- 01: 'Opcode 11 taken: ra is known to be the constant'
 unfoldable pub constantsOf : Values → Dep → List ℕ
 constantsOf vs (name v) =
-    held (getD (vs .constants) (birthplace v) 0) ++ sameConstant (typed vs v) ++ held (pick (eqb v (vs .tested)) (vs .equal) 0)
+    held (ownConstant vs v) ++ sameConstant (typed vs v) ++ held (pick (eqb v (vs .tested)) (vs .equal) 0)
 constantsOf vs (con c) = c ∷ []
 
 -- some constant passes

@@ -7,6 +7,9 @@ use borrow.Author.Needs.{needs}
 use Rattle.fits.proofs.fits_pointer.Statement.{statement}
 use Rattle.fits.proofs.fits_pointer.Tie as tie
 
+abbrev start : tie.After-is-ref → tie.Start
+start c = c .before .before .before
+
 record-type-requires : tie.Need-record-type-requires
 record-type-requires c κs = search needs
 
@@ -15,38 +18,47 @@ is-ref-requires c κs = search needs
 
 returns : tie.Need-returns
 returns c =
-    λ types. fits-is-ref _ _ _ (c .before .before .before .before .args .w) (now (c .before .before .before .before .args .names)) _ refl _
-    (c .before .before .record-type .ensures .0) (omega arith) (omega arith) (sym (c .before .is-ref .ensures types) ∙ c .if1 .taken)
+    let r = c .before in
+    let s = start r in
+    λ types. fits-is-ref _ _ _ (s .args .w) (now (s .args .names)) _ refl _ (r .before .record-type .ensures .0) (omega arith)
+    (omega arith) (sym (r .is-ref .ensures types) ∙ c .if1 .taken)
 
 kind-requires : tie.Need-kind-requires
 kind-requires c κs = search needs
 
 returns-2 : tie.Need-returns-2
 returns-2 c =
-    λ types. fits-ref _ _ _ _ (now (c .before .before .before .before .before .before .args .names)) _ (c .before .kind .ensures .0) _
-    (c .before .before .before .before .record-type .ensures .0) (omega arith) (sym
-    (c .before .before .before .is-ref .ensures types) ∙ c .before .before .if1 .left)
+    let k = c .before in
+    let e = k .before in
+    let r = e .before in
+    λ types. fits-ref _ _ _ _ (now (start r .args .names)) _ (k .kind .ensures .0) _ (r .before .record-type .ensures .0)
+    (sym (r .is-ref .ensures types) ∙ e .if1 .left) (omega arith)
 
 known-zero-requires : tie.Need-known-zero-requires
 known-zero-requires c κs = search needs
 
 returns-3 : tie.Need-returns-3
 returns-3 c =
-    λ types. fits-zero _ _ _ _ (now (c .before .before .before .before .before .before .before .before .args .names)) _
-    (c .before .before .before .kind .ensures .0) _ (c .before .before .before .before .before .before .record-type .ensures .0)
-    (omega arith) (sym (c .before .before .before .before .before .is-ref .ensures types) ∙ c .before .before .before .before .if1 .left)
-    (sym (c .before .known-zero .ensures types _ _) ∙ c .if3 .taken)
+    let z = c .before in
+    let k = z .before .before in
+    let e = k .before in
+    let r = e .before in
+    λ types. fits-zero _ _ _ _ (now (start r .args .names)) _ (k .kind .ensures .0) _ (r .before .record-type .ensures .0)
+    (sym (r .is-ref .ensures types) ∙ e .if1 .left) (omega arith) (sym (z .known-zero .ensures types _) ∙ c .if3 .taken)
 
 is-maybe-requires : tie.Need-is-maybe-requires
 is-maybe-requires c κs = search needs
 
 returns-4 : tie.Need-returns-4
 returns-4 c =
-    λ types. fits-maybe _ _ _ _ (now (c .before .before .before .before .before .before .before .before .before .args .names)) _
-    (c .before .before .before .before .kind .ensures .0) _
-    (c .before .before .before .before .before .before .before .record-type .ensures .0) (omega arith) (sym
-    (c .before .before .before .before .before .before .is-ref .ensures types) ∙ c .before .before .before .before .before .if1 .left) (sym
-    (c .before .before .known-zero .ensures types _ _) ∙ c .before .if3 .left) _ (c .is-maybe .ensures types)
+    let f = c .before in
+    let z = f .before in
+    let k = z .before .before in
+    let e = k .before in
+    let r = e .before in
+    λ types. fits-maybe _ _ _ _ (now (start r .args .names)) _ (k .kind .ensures .0) _ (r .before .record-type .ensures .0)
+    (sym (r .is-ref .ensures types) ∙ e .if1 .left) (omega arith) (sym (z .known-zero .ensures types _) ∙ f .if3 .left) _
+    (c .is-maybe .ensures types)
 
 pub fits-pointer-spec : {M : Type 1} → statement M
 fits-pointer-spec =

@@ -1,11 +1,16 @@
--- `fits::fits_tagged` meets its contract.
+-- `fits::fits_tagged` meets its contract: by the tag first, and known 0 last.
 use mathlib.Core.Path.{sym, _∙_}
+use mathlib.Core.List.{List}
+use Prim.Native.Nat.{ℕ}
 use native.Mathlib.Omega.{arith}
 use denote.Ref.{now}
-use Rattle.fits.proofs.Answers.{fits-present, fits-tagged-zero, fits-tagged}
+use Rattle.fits.proofs.Answers.{fits-tag, fits-present, fits-tagged}
 use borrow.Author.Needs.{needs}
 use Rattle.fits.proofs.fits_tagged.Statement.{statement}
 use Rattle.fits.proofs.fits_tagged.Tie as tie
+
+abbrev names : tie.After-first-dependency → List ℕ
+names c = now (c .before .before .args .names)
 
 first-dependency-requires : tie.Need-first-dependency-requires
 first-dependency-requires c κs = search needs
@@ -16,34 +21,38 @@ named-requires c κs = search needs
 kind-requires : tie.Need-kind-requires
 kind-requires c κs = search needs
 
-is-present-requires : tie.Need-is-present-requires
-is-present-requires c κs = search needs
+tag-fits-requires : tie.Need-tag-fits-requires
+tag-fits-requires c κs = search needs
 
 returns : tie.Need-returns
 returns c =
-    λ types. fits-present _ _ _ _ (now (c .before .before .before .before .before .before .args .names)) _
-    (c .before .before .kind .ensures .0) _ _ (c .before .before .before .before .first-dependency .ensures .0)
-    (c .before .before .before .named .ensures) (omega arith) _ (c .is-present .ensures types)
+    let k = c .before .before in
+    let y = k .before in
+    let p = y .before in
+    λ types. fits-tag _ _ _ _ (names p) _ (k .kind .ensures .0) _ _ (p .first-dependency .ensures .0) (y .named .ensures) (omega arith)
+    (omega arith) (sym (c .before .tag-fits .ensures types) ∙ c .if1 .taken)
+
+returns-2 : tie.Need-returns-2
+returns-2 c =
+    let e = c .before in
+    let k = e .before .before in
+    let y = k .before in
+    let p = y .before in
+    λ types. fits-present _ _ _ _ (names p) _ (k .kind .ensures .0) _ _ (p .first-dependency .ensures .0) (y .named .ensures) (omega arith)
+    (omega arith) (sym (e .before .tag-fits .ensures types) ∙ e .if1 .left) (c .if2 .taken)
 
 known-zero-requires : tie.Need-known-zero-requires
 known-zero-requires c κs = search needs
 
-returns-2 : tie.Need-returns-2
-returns-2 c =
-    λ types. fits-tagged-zero _ _ _ _ (now (c .before .before .before .before .before .before .before .args .names)) _
-    (c .before .before .before .kind .ensures .0) _ _ (c .before .before .before .before .before .first-dependency .ensures .0)
-    (c .before .before .before .before .named .ensures) (omega arith) (sym (c .before .known-zero .ensures types _ _) ∙ c .if2 .taken)
-
-is-tagged-requires : tie.Need-is-tagged-requires
-is-tagged-requires c κs = search needs
-
 returns-3 : tie.Need-returns-3
 returns-3 c =
-    λ types. fits-tagged _ _ _ _ (now (c .before .before .before .before .before .before .before .before .args .names)) _
-    (c .before .before .before .before .kind .ensures .0) _ _
-    (c .before .before .before .before .before .before .first-dependency .ensures .0)
-    (c .before .before .before .before .before .named .ensures) (omega arith) (sym
-    (c .before .before .known-zero .ensures types _ _) ∙ c .before .if2 .left) _ (c .is-tagged .ensures types)
+    let z = c .before in
+    let e = z .before in
+    let k = e .before .before in
+    let y = k .before in
+    let p = y .before in
+    λ types. fits-tagged _ _ _ _ (names p) _ (k .kind .ensures .0) _ _ (p .first-dependency .ensures .0) (y .named .ensures) (omega arith)
+    (omega arith) (sym (e .before .tag-fits .ensures types) ∙ e .if1 .left) (z .if2 .left) _ (c .known-zero .ensures types _)
 
 pub fits-tagged-spec : {M : Type 1} → statement M
 fits-tagged-spec =
@@ -52,9 +61,8 @@ fits-tagged-spec =
     first-dependency-requires
     named-requires
     kind-requires
-    is-present-requires
+    tag-fits-requires
     returns
-    known-zero-requires
     returns-2
-    is-tagged-requires
+    known-zero-requires
     returns-3)

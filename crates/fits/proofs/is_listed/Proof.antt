@@ -1,5 +1,4 @@
 -- `fits::is_listed` meets its contract.
-use mathlib.Core.Bool.{true, false}
 use native.Mathlib.Omega.{arith}
 use mathlib.Core.Bool.{false≢true}
 use mathlib.Core.Logic.{inl, inr}

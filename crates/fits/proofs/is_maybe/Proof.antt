@@ -18,10 +18,14 @@ record-type-requires : tie.Need-record-type-requires
 record-type-requires c κs = search needs
 
 returns : tie.Need-returns
-returns c = λ types. maybe-maybe _ _ _ _ _ _ _ _ _ (c .before .before .kind .ensures .0) (omega arith) _ (c .record-type .ensures .0)
+returns c =
+    let d = c .before .before in
+    λ types. maybe-maybe _ _ _ _ (d .kind .ensures .0) _ _ (c .record-type .ensures .0) (omega arith)
 
 returns-2 : tie.Need-returns-2
-returns-2 c = λ types. maybe-other _ _ _ _ _ _ _ _ _ (c .before .before .kind .ensures .0) (λ h. omega arith) (λ h. omega arith)
+returns-2 c =
+    let d = c .before .before in
+    λ types. maybe-other _ _ _ _ (d .kind .ensures .0) _ (λ h. omega arith) (λ h. omega arith)
 
 first-dependency-requires : tie.Need-first-dependency-requires
 first-dependency-requires c κs = search needs
@@ -34,8 +38,11 @@ known-tag-or-beyond-requires c κs = search needs
 
 returns-3 : tie.Need-returns-3
 returns-3 c =
-    λ types. maybe-tagged _ _ _ _ _ _ _ _ _ (c .before .before .before .before .before .kind .ensures .0) _ _ (c .before .before .first-dependency .ensures .0) (c .before .dependency .ensures)
-    (omega arith) _ (c .known-tag-or-beyond .ensures types _)
+    let x = c .before in
+    let p = x .before in
+    let d = p .before .before .before in
+    λ types. maybe-tagged _ _ _ _ (d .kind .ensures .0) _ _ (p .first-dependency .ensures .0) (x .dependency .ensures) _ (omega arith) _
+    (c .known-tag-or-beyond .ensures types)
 
 pub is-maybe-spec : {M : Type 1} → statement M
 is-maybe-spec =

@@ -1,12 +1,95 @@
--- `fits::is_span` meets its contract.
-use mathlib.Core.Path.{refl}
+-- `fits::is_span` meets its contract: past each test, the rest comes to what the whole comes to.
+use mathlib.Core.Path.{_≡_, sym, _∙_}
+use mathlib.Core.Bool.{Bool}
+use mathlib.Core.List.{List}
+use Prim.Native.Nat.{ℕ}
 use native.Mathlib.Omega.{arith}
 use denote.Ref.{now}
+use lib.Dec.{eqb}
+use lib.ListN.{getD}
+use borrow.Author.Tests.{eq-eqb, ne-eqb}
+use Rattle.model.specs.Question.{_and_}
+use Rattle.model.specs.Word.{recordOf}
+use Rattle.model.specs.Table.{tablesOf}
+use Rattle.model.specs.Reading.{Values, fits}
 use Rattle.table.proofs.Questions.{told-no, told-yes}
-use Rattle.fits.proofs.Answers.{span-below, span-record, span-first, span-second}
+use Rattle.fits.specs.Numbers.{valuesOf, meant}
+use Rattle.fits.proofs.Answers.{firsts, seconds, known-of, span-below, span-ranked}
 use borrow.Author.Needs.{needs}
 use Rattle.fits.proofs.is_span.Statement.{statement}
 use Rattle.fits.proofs.is_span.Tie as tie
+
+-- ---- the values, and what is asked of them
+
+abbrev values : tie.Start → Values
+values s =
+    valuesOf (now (s .args .words)) (now (s .args .frames)) (now (s .args .constants)) (s .args .tested) (s .args .equal)
+
+abbrev names : tie.Start → List ℕ
+names s = now (s .args .names)
+
+abbrev own : tie.Start → ℕ
+own s = getD (now (s .args .words)) (s .args .v) 0
+
+abbrev fit : List ℕ → List ℕ → tie.Start → Bool
+fit types tags s = fits (tablesOf types tags) (values s) (s .args .v) (meant (names s) (s .args .w))
+
+abbrev record-alike : tie.Start → Bool
+record-alike s = eqb (recordOf (own s)) (recordOf (s .args .w))
+
+abbrev first : tie.Start → Bool
+first s = firsts (values s) (s .args .v) (s .args .w) (names s)
+
+abbrev second : tie.Start → Bool
+second s = seconds (values s) (s .args .v) (s .args .w) (names s)
+
+-- ---- places: the start, seen from past each test, and the frame that v is read in
+
+abbrev start : tie.After-kind2 → tie.Start
+start c = c .before .before .before
+
+abbrev start-1 : tie.After-record-type2 → tie.Start
+start-1 c = start (c .before .before .before)
+
+abbrev start-2 : tie.After-frame → tie.Start
+start-2 c = start-1 (c .before .before)
+
+abbrev frame : tie.After-known-equal → tie.After-frame
+frame c = c .before .before .before .before .before
+
+-- ---- past each test
+
+kinds-passed : (types tags : List ℕ) (c : tie.Else1)
+    → fit types tags (start (c .before)) ≡ record-alike (start (c .before)) and first (start (c .before)) and second (start (c .before))
+kinds-passed types tags c =
+    let s = start (c .before) in
+    span-ranked _ _ _ (s .args .w) (names s) (omega arith) (omega arith)
+
+record-passed : (types tags : List ℕ) (c : tie.Else2)
+    → fit types tags (start-1 (c .before)) ≡ first (start-1 (c .before)) and second (start-1 (c .before))
+unfolding _and_
+record-passed types tags c =
+    let u = c .before in
+    let t = u .before in
+    let q : t .record-type .result ≡ u .record-type2 .result = omega arith in
+    kinds-passed types tags (t .before)
+    ∙ rw (eq-eqb _ _ (sym (t .record-type .ensures .0) ∙ q ∙ u .record-type2 .ensures .0))
+
+first-told : (c : tie.After-known-equal) → c .known-equal .result ≡ first (start-2 (frame c))
+first-told c =
+    let y = c .before in
+    let q = y .before in
+    let x = q .before in
+    let p = x .before in
+    known-of _ (names (start-2 (frame c))) _ _ _ _ _ _ _ _ (frame c .frame .ensures .0) (x .sibling .ensures)
+    (p .first-dependency .ensures .0) (y .named .ensures) (q .first-dependency2 .ensures .0) _ (c .known-equal .ensures)
+
+first-passed : (types tags : List ℕ) (c : tie.Else3) → fit types tags (start-2 (frame (c .before))) ≡ second (start-2 (frame (c .before)))
+unfolding _and_
+first-passed types tags c =
+    record-passed types tags (frame (c .before) .before) ∙ rw (told-yes (first-told (c .before)) (c .if3 .left))
+
+-- ---- the needs
 
 mul-own : tie.Need-mul-own
 mul-own c = search needs
@@ -22,8 +105,8 @@ kind-requires-2 c κs = search needs
 
 returns : tie.Need-returns
 returns c =
-    λ types tags. span-below _ _ _ _ _ _ _ (c .before .before .before .before .args .w) (now
-    (c .before .before .before .before .args .names)) (omega arith) _ _ refl (c .before .before .kind .ensures .0) (omega arith)
+    let s = start (c .before) in
+    λ types tags. span-below _ _ _ (s .args .w) (names s) (omega arith) (omega arith)
 
 record-type-requires : tie.Need-record-type-requires
 record-type-requires c κs = search needs
@@ -32,11 +115,12 @@ record-type-requires-2 : tie.Need-record-type-requires-2
 record-type-requires-2 c κs = search needs
 
 returns-2 : tie.Need-returns-2
+unfolding _and_
 returns-2 c =
-    λ types tags. span-record _ _ _ _ _ _ _ (c .before .before .before .before .before .before .before .args .w) (now
-    (c .before .before .before .before .before .before .before .args .names)) (omega arith) _ _ refl
-    (c .before .before .before .before .before .kind .ensures .0) (omega arith) _ _ (c .before .before .record-type .ensures .0)
-    (c .before .record-type2 .ensures .0) (c .if2 .taken)
+    let u = c .before in
+    let t = u .before in
+    λ types tags. sym (kinds-passed types tags (t .before)
+    ∙ rw (ne-eqb _ _ (λ h. c .if2 .taken (t .record-type .ensures .0 ∙ h ∙ sym (u .record-type2 .ensures .0)))))
 
 frame-requires : tie.Need-frame-requires
 frame-requires c κs = search needs
@@ -57,18 +141,8 @@ known-equal-requires : tie.Need-known-equal-requires
 known-equal-requires c κs = search needs
 
 returns-3 : tie.Need-returns-3
-returns-3 c =
-    λ types tags. span-first _ _ _ _ _ _ _
-    (c .before .before .before .before .before .before .before .before .before .before .before .before .before .before .args .w) (now
-    (c .before .before .before .before .before .before .before .before .before .before .before .before .before .before .args .names))
-    (omega arith) _ _ refl
-    (c .before .before .before .before .before .before .before .before .before .before .before .before .kind .ensures .0) (omega arith) _ _
-    (c .before .before .before .before .before .before .before .before .before .record-type .ensures .0)
-    (c .before .before .before .before .before .before .before .before .record-type2 .ensures .0) (omega arith) _
-    (c .before .before .before .before .before .before .frame .ensures .0) _ _ _ _
-    (c .before .before .before .before .before .first-dependency .ensures .0) (c .before .before .before .before .sibling .ensures)
-    (c .before .before .before .first-dependency2 .ensures .0) (c .before .before .named .ensures) (told-no
-    (c .before .known-equal .ensures) (c .if3 .taken))
+unfolding _and_
+returns-3 c = λ types tags. sym (record-passed types tags (frame (c .before) .before) ∙ rw (told-no (first-told (c .before)) (c .if3 .taken)))
 
 second-dependency-requires : tie.Need-second-dependency-requires
 second-dependency-requires c κs = search needs
@@ -87,8 +161,14 @@ known-equal-requires-2 c κs = search needs
 
 returns-4 : tie.Need-returns-4
 returns-4 c =
-    λ types tags. span-second _ _ _ _ _ _ _
-    (c .before .before .before .before .before .before .before .before .before .before .before .before .before .before .before .before .before .before .before .args .w) (now (c .before .before .before .before .before .before .before .before .before .before .before .before .before .before .before .before .before .before .before .args .names)) (omega arith) _ _ refl (c .before .before .before .before .before .before .before .before .before .before .before .before .before .before .before .before .before .kind .ensures .0) (omega arith) _ _ (c .before .before .before .before .before .before .before .before .before .before .before .before .before .before .record-type .ensures .0) (c .before .before .before .before .before .before .before .before .before .before .before .before .before .record-type2 .ensures .0) (omega arith) _ (c .before .before .before .before .before .before .before .before .before .before .before .frame .ensures .0) _ _ _ _ (c .before .before .before .before .before .before .before .before .before .before .first-dependency .ensures .0) (c .before .before .before .before .before .before .before .before .before .sibling .ensures) (c .before .before .before .before .before .before .before .before .first-dependency2 .ensures .0) (c .before .before .before .before .before .before .before .named .ensures) (told-yes (c .before .before .before .before .before .before .known-equal .ensures) (c .before .before .before .before .before .if3 .left)) _ _ _ _ (c .before .before .before .before .second-dependency .ensures .0) (c .before .before .before .sibling2 .ensures) (c .before .before .second-dependency2 .ensures .0) (c .before .named2 .ensures) _ (c .known-equal2 .ensures)
+    let y = c .before in
+    let q = y .before in
+    let x = q .before in
+    let p = x .before in
+    let f = frame (p .before .before) in
+    λ types tags. known-of _ (names (start-2 f)) _ _ _ _ _ _ _ _ (f .frame .ensures .0) (x .sibling2 .ensures)
+    (p .second-dependency .ensures .0) (y .named2 .ensures) (q .second-dependency2 .ensures .0) _ (c .known-equal2 .ensures)
+    ∙ sym (first-passed types tags (p .before))
 
 pub is-span-spec : {M : Type 1} → statement M
 is-span-spec =

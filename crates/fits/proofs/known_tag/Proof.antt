@@ -1,47 +1,53 @@
 -- `fits::known_tag` meets its contract.
 use mathlib.Core.Path.{sym, _∙_}
-use Rattle.fits.proofs.Answers.{known-born, known-same, known-told}
+use mathlib.Core.Bool.{Bool}
+use mathlib.Core.List.{List}
+use Prim.Native.Nat.{ℕ}
+use denote.Ref.{now}
+use Rattle.model.specs.Table.{tablesOf}
+use Rattle.model.specs.Reading.{tagOf, knownTag}
+use Rattle.fits.proofs.Answers.{known-own, known-tested}
 use borrow.Author.Needs.{needs}
 use Rattle.fits.proofs.known_tag.Statement.{statement}
 use Rattle.fits.proofs.known_tag.Tie as tie
 
-constants-of-requires : tie.Need-constants-of-requires
-constants-of-requires c κs = search needs
+abbrev serves : List ℕ → tie.Start → ℕ → Bool
+serves types s = tagOf (tablesOf types (now (s .args .tags))) (s .args .t)
+
+constant-of-requires : tie.Need-constant-of-requires
+constant-of-requires c κs = search needs
 
 is-tag-requires : tie.Need-is-tag-requires
 is-tag-requires c κs = search needs
 
 returns : tie.Need-returns
+unfolding knownTag
 returns c =
-    λ types frames. known-born _ _ _ _ _ (c .before .before .constants-of .ensures frames) (sym
-    (c .before .is-tag .ensures types) ∙ c .if1 .taken)
+    let a = c .before .before in
+    λ types. known-own _ _ _ _ _ _ (a .constant-of .result) (a .constant-of .ensures) (serves types (a .before .before))
+    (sym (c .before .is-tag .ensures types) ∙ c .if1 .taken)
+
+tested-constant-requires : tie.Need-tested-constant-requires
+tested-constant-requires c κs = search needs
 
 is-tag-requires-2 : tie.Need-is-tag-requires-2
 is-tag-requires-2 c κs = search needs
 
 returns-2 : tie.Need-returns-2
+unfolding knownTag
 returns-2 c =
-    λ types frames. known-same _ _ _ _ _ (c .before .before .before .before .constants-of .ensures frames) (sym
-    (c .before .before .before .is-tag .ensures types) ∙ c .before .before .if1 .left) (sym
-    (c .before .is-tag2 .ensures types) ∙ c .if2 .taken)
-
-is-tag-requires-3 : tie.Need-is-tag-requires-3
-is-tag-requires-3 c κs = search needs
-
-returns-3 : tie.Need-returns-3
-returns-3 c =
-    λ types frames. known-told _ _ _ _ _ (c .before .before .before .before .before .constants-of .ensures frames) (sym
-    (c .before .before .before .before .is-tag .ensures types) ∙ c .before .before .before .if1 .left) (sym
-    (c .before .before .is-tag2 .ensures types) ∙ c .before .if2 .left) _ (c .is-tag3 .ensures types)
+    let d = c .before .before in
+    let a = d .before .before in
+    λ types. known-tested _ _ _ _ _ _ (a .constant-of .result) (a .constant-of .ensures) (serves types (a .before .before))
+    (sym (d .before .is-tag .ensures types) ∙ d .if1 .left) _ (c .before .tested-constant .ensures) _ (c .is-tag2 .ensures types)
 
 pub known-tag-spec : {M : Type 1} → statement M
 known-tag-spec =
     tie.close
     (tie.spec
-    constants-of-requires
+    constant-of-requires
     is-tag-requires
     returns
+    tested-constant-requires
     is-tag-requires-2
-    returns-2
-    is-tag-requires-3
-    returns-3)
+    returns-2)

@@ -1,19 +1,33 @@
 -- `fits::known_zero` meets its contract.
-use mathlib.Core.Path.{refl, _∙_}
 use native.Mathlib.Omega.{arith}
-use Rattle.fits.proofs.Answers.{zero-known}
+use Rattle.model.specs.Table.{tablesOf}
+use Rattle.fits.proofs.Answers.{zero-own, zero-tested}
 use borrow.Author.Needs.{needs}
 use Rattle.fits.proofs.known_zero.Statement.{statement}
 use Rattle.fits.proofs.known_zero.Tie as tie
 
-constants-of-requires : tie.Need-constants-of-requires
-constants-of-requires c κs = search needs
-
-contains-requires : tie.Need-contains-requires
-contains-requires c κs = search needs
+constant-of-requires : tie.Need-constant-of-requires
+constant-of-requires c κs = search needs
 
 returns : tie.Need-returns
-returns c = λ types tags frames. c .contains .ensures ∙ zero-known _ _ _ _ _ refl (omega arith) (c .before .constants-of .ensures frames)
+returns c =
+    let a = c .before in
+    λ types tags. zero-own _ _ _ _ _ _ (a .constant-of .result) (a .constant-of .ensures) (omega arith) (tablesOf types tags) (omega arith)
+
+tested-constant-requires : tie.Need-tested-constant-requires
+tested-constant-requires c κs = search needs
+
+returns-2 : tie.Need-returns-2
+returns-2 c =
+    let a = c .before .before in
+    λ types tags. zero-tested _ _ _ _ _ _ (a .constant-of .result) (a .constant-of .ensures) (omega arith) (tablesOf types tags)
+    (λ h. omega arith) _ (c .tested-constant .ensures)
 
 pub known-zero-spec : {M : Type 1} → statement M
-known-zero-spec = tie.close (tie.spec constants-of-requires contains-requires returns)
+known-zero-spec =
+    tie.close
+    (tie.spec
+    constant-of-requires
+    returns
+    tested-constant-requires
+    returns-2)

@@ -1,8 +1,6 @@
 -- `fits::reference` meets its contract.
-use mathlib.Core.Path.{ap, _∙_}
 use native.Mathlib.Omega.{arith}
-use Rattle.model.specs.Reading.{firstTag}
-use Rattle.fits.proofs.Answers.{reference-ref, reference-in, reference-other, reference-present}
+use Rattle.fits.proofs.Answers.{first-known, reference-ref, reference-in, reference-other, reference-present}
 use borrow.Author.Needs.{needs}
 use Rattle.fits.proofs.reference.Statement.{statement}
 use Rattle.fits.proofs.reference.Tie as tie
@@ -20,19 +18,22 @@ record-type-requires : tie.Need-record-type-requires
 record-type-requires c κs = search needs
 
 returns : tie.Need-returns
-returns c = λ types. reference-ref _ _ _ _ _ _ _ 0 _ (c .before .before .kind .ensures .0) (omega arith) _ (c .record-type .ensures .0)
+returns c =
+    let d = c .before .before in
+    λ types. reference-ref _ _ _ _ (d .kind .ensures .0) (omega arith) _ (c .record-type .ensures .0)
 
 record-type-requires-2 : tie.Need-record-type-requires-2
 record-type-requires-2 c κs = search needs
 
 returns-2 : tie.Need-returns-2
 returns-2 c =
-    λ types. reference-in _ _ _ _ _ _ _ 0 _ (c .before .before .before .kind .ensures .0) (omega arith) _ (c .record-type2 .ensures .0)
+    let d = c .before .before .before in
+    λ types. reference-in _ _ _ _ (d .kind .ensures .0) (omega arith) _ (c .record-type2 .ensures .0)
 
 returns-3 : tie.Need-returns-3
 returns-3 c =
-    λ types. reference-other _ _ _ _ _ _ _ 0 _ (c .before .before .before .kind .ensures .0) (λ h. omega arith) (λ h. omega arith)
-    (λ h. omega arith)
+    let d = c .before .before .before in
+    λ types. reference-other _ _ _ _ (d .kind .ensures .0) (λ h. omega arith) (λ h. omega arith) (λ h. omega arith)
 
 first-dependency-requires : tie.Need-first-dependency-requires
 first-dependency-requires c κs = search needs
@@ -40,17 +41,24 @@ first-dependency-requires c κs = search needs
 dependency-requires : tie.Need-dependency-requires
 dependency-requires c κs = search needs
 
-constants-of-requires : tie.Need-constants-of-requires
-constants-of-requires c κs = search needs
+constant-of-requires : tie.Need-constant-of-requires
+constant-of-requires c κs = search needs
+
+tested-constant-requires : tie.Need-tested-constant-requires
+tested-constant-requires c κs = search needs
 
 first-tag-requires : tie.Need-first-tag-requires
 first-tag-requires c κs = search needs
 
 returns-4 : tie.Need-returns-4
 returns-4 c =
-    λ types. reference-present _ _ _ _ _ _ _ 0 _ (c .before .before .before .before .before .before .before .kind .ensures .0) _ _ (c .before .before .before .first-dependency .ensures .0)
-    (c .before .before .dependency .ensures) (omega arith) _ (c .first-tag .ensures types ∙ ap (firstTag _)
-    (c .before .constants-of .ensures _))
+    let t = c .before in
+    let k = t .before in
+    let x = k .before in
+    let p = x .before in
+    let d = p .before .before .before .before in
+    λ types. reference-present _ _ _ _ (d .kind .ensures .0) _ _ (p .first-dependency .ensures .0) (x .dependency .ensures) (omega arith) _
+    (first-known _ _ _ _ _ _ (k .constant-of .result) (k .constant-of .ensures) _ _ (t .tested-constant .ensures) _ (c .first-tag .ensures types))
 
 pub reference-spec : {M : Type 1} → statement M
 reference-spec =
@@ -66,6 +74,7 @@ reference-spec =
     returns-3
     first-dependency-requires
     dependency-requires
-    constants-of-requires
+    constant-of-requires
+    tested-constant-requires
     first-tag-requires
     returns-4)

@@ -6,7 +6,7 @@ use Rattle.fits.proofs.says_same.Statement.{statement}
 use Rattle.fits.proofs.says_same.Tie as tie
 
 returns : tie.Need-returns
-returns c = λ constants tested equal. says-constant _ _ constants tested equal _ _ (omega arith)
+returns c = λ constants tested equal. says-constant _ _ _ (omega arith)
 
 mul-w : tie.Need-mul-w
 mul-w c = search needs
@@ -18,7 +18,7 @@ kind-requires : tie.Need-kind-requires
 kind-requires c κs = search needs
 
 returns-2 : tie.Need-returns-2
-returns-2 c = λ constants tested equal. says-other _ _ constants tested equal _ _ (omega arith) (λ h. omega arith)
+returns-2 c = λ constants tested equal. says-other _ _ _ (omega arith) (λ h. omega arith)
 
 first-dependency-requires : tie.Need-first-dependency-requires
 first-dependency-requires c κs = search needs
@@ -27,8 +27,7 @@ dependency-requires : tie.Need-dependency-requires
 dependency-requires c κs = search needs
 
 returns-3 : tie.Need-returns-3
-returns-3 c =
-    λ constants tested equal. says-same _ _ constants tested equal _ _ (omega arith) (omega arith) _ _ (c .before .first-dependency .ensures .0) (c .dependency .ensures)
+returns-3 c = λ constants tested equal. says-same _ _ _ (omega arith) (omega arith) _ _ (c .before .first-dependency .ensures .0) (c .dependency .ensures)
 
 pub says-same-spec : {M : Type 1} → statement M
 says-same-spec =

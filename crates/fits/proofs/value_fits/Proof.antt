@@ -1,17 +1,26 @@
 -- `fits::value_fits` meets its contract.
 use mathlib.Core.Path.{refl}
+use mathlib.Core.List.{List}
+use Prim.Native.Nat.{ℕ}
 use native.Mathlib.Omega.{arith}
 use denote.Ref.{now}
-use Rattle.fits.proofs.Answers.{fits-any, fits-same}
+use Rattle.fits.proofs.Answers.{fits-any, fits-same, equal-one}
 use borrow.Author.Needs.{needs}
 use Rattle.fits.proofs.value_fits.Statement.{statement}
 use Rattle.fits.proofs.value_fits.Tie as tie
+
+-- past the kind of the word wanted: the names, and where it is Same
+abbrev names : tie.After-kind → List ℕ
+names c = now (c .before .before .args .names)
+
+abbrev kind : tie.Then4 → tie.After-kind
+kind c = c .before .before .before .before
 
 kind-requires : tie.Need-kind-requires
 kind-requires c κs = search needs
 
 returns : tie.Need-returns
-returns c = λ types. fits-any _ _ _ _ (now (c .before .before .before .args .names)) _ (c .before .kind .ensures .0) (omega arith)
+returns c = λ types. fits-any _ _ _ _ (names (c .before)) _ (c .before .kind .ensures .0) (omega arith)
 
 fits-pointer-requires : tie.Need-fits-pointer-requires
 fits-pointer-requires c κs = search needs
@@ -31,20 +40,30 @@ first-dependency-requires c κs = search needs
 named-requires : tie.Need-named-requires
 named-requires c κs = search needs
 
-known-equal-requires : tie.Need-known-equal-requires
-known-equal-requires c κs = search needs
-
 returns-4 : tie.Need-returns-4
 returns-4 c =
-    λ types. fits-same _ _ _ _ (now (c .before .before .before .before .before .before .before .before .before .args .names)) _
-    (c .before .before .before .before .before .before .before .kind .ensures .0) _ _ (c .before .before .first-dependency .ensures .0)
-    (c .before .named .ensures) (omega arith) _ refl (omega arith) _ (c .known-equal .ensures)
+    let y = c .before in
+    let p = y .before in
+    let k = kind (p .before) in
+    λ types. fits-same _ _ _ _ (names k) _ (k .kind .ensures .0) _ _ (p .first-dependency .ensures .0) (y .named .ensures) (omega arith) _ refl
+    (omega arith) _ (equal-one _ _ _ (omega arith))
+
+joined-requires : tie.Need-joined-requires
+joined-requires c κs = search needs
+
+returns-5 : tie.Need-returns-5
+returns-5 c =
+    let y = c .before .before in
+    let p = y .before in
+    let k = kind (p .before) in
+    λ types. fits-same _ _ _ _ (names k) _ (k .kind .ensures .0) _ _ (p .first-dependency .ensures .0) (y .named .ensures) (omega arith) _ refl
+    (omega arith) _ (c .joined .ensures)
 
 is-span-requires : tie.Need-is-span-requires
 is-span-requires c κs = search needs
 
-returns-5 : tie.Need-returns-5
-returns-5 c = λ types. c .is-span .ensures types _
+returns-6 : tie.Need-returns-6
+returns-6 c = λ types. c .is-span .ensures types _
 
 pub value-fits-spec : {M : Type 1} → statement M
 value-fits-spec =
@@ -58,7 +77,8 @@ value-fits-spec =
     returns-3
     first-dependency-requires
     named-requires
-    known-equal-requires
     returns-4
+    joined-requires
+    returns-5
     is-span-requires
-    returns-5)
+    returns-6)

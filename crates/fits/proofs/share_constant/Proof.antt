@@ -1,0 +1,88 @@
+-- `fits::share_constant` meets its contract.
+use mathlib.Core.Path.{_≡_, sym, _∙_}
+use mathlib.Core.Bool.{false}
+use Prim.Native.Nat.{ℕ}
+use native.Mathlib.Omega.{arith}
+use Rattle.fits.proofs.Answers.{share-one, share-untested, share-left, share-right}
+use Rattle.fits.specs.Numbers.{oneConstant}
+use borrow.Author.Needs.{needs}
+use Rattle.fits.proofs.share_constant.Statement.{statement}
+use Rattle.fits.proofs.share_constant.Tie as tie
+
+-- ---- the constants of x and y
+
+abbrev k : tie.After-constant-of2 → ℕ
+k c = c .before .constant-of .result
+
+abbrev l : tie.After-constant-of2 → ℕ
+l c = c .constant-of2 .result
+
+apart : (c : tie.Else1) → oneConstant (k (c .before .before)) (l (c .before .before)) ≡ false
+apart c = sym (c .before .one-constant .ensures) ∙ c .if1 .left
+
+-- ---- the needs
+
+constant-of-requires : tie.Need-constant-of-requires
+constant-of-requires c κs = search needs
+
+constant-of-requires-2 : tie.Need-constant-of-requires-2
+constant-of-requires-2 c κs = search needs
+
+one-constant-requires : tie.Need-one-constant-requires
+one-constant-requires c κs = search needs
+
+returns : tie.Need-returns
+returns c =
+    let a = c .before .before in
+    share-one _ _ _ _ _ _ _ (λ h. omega arith) (k a) (l a) (a .before .constant-of .ensures) (a .constant-of2 .ensures)
+    (sym (c .before .one-constant .ensures) ∙ c .if1 .taken)
+
+returns-2 : tie.Need-returns-2
+returns-2 c =
+    let a = c .before .before .before in
+    share-untested _ _ _ _ _ _ _ (λ h. omega arith) (k a) (l a) (a .before .constant-of .ensures) (a .constant-of2 .ensures)
+    (apart (c .before)) (omega arith)
+
+tested-constant-requires : tie.Need-tested-constant-requires
+tested-constant-requires c κs = search needs
+
+one-constant-requires-2 : tie.Need-one-constant-requires-2
+one-constant-requires-2 c κs = search needs
+
+returns-3 : tie.Need-returns-3
+returns-3 c =
+    let d = c .before .before in
+    let a = d .before .before .before .before in
+    share-left _ _ _ _ _ _ _ (λ h. omega arith) (k a) (l a) (a .before .constant-of .ensures) (a .constant-of2 .ensures)
+    (apart (d .before .before)) _ (d .tested-constant .ensures) (sym (c .before .one-constant2 .ensures) ∙ c .if3 .taken)
+
+tested-constant-requires-2 : tie.Need-tested-constant-requires-2
+tested-constant-requires-2 c κs = search needs
+
+one-constant-requires-3 : tie.Need-one-constant-requires-3
+one-constant-requires-3 c κs = search needs
+
+returns-4 : tie.Need-returns-4
+returns-4 c =
+    let e = c .before .before in
+    let d = e .before .before in
+    let a = d .before .before .before .before in
+    share-right _ _ _ _ _ _ _ (λ h. omega arith) (k a) (l a) (a .before .constant-of .ensures) (a .constant-of2 .ensures)
+    (apart (d .before .before)) _ (d .tested-constant .ensures) (sym (e .before .one-constant2 .ensures) ∙ e .if3 .left)
+    _ (c .before .tested-constant2 .ensures) _ (c .one-constant3 .ensures)
+
+pub share-constant-spec : {M : Type 1} → statement M
+share-constant-spec =
+    tie.close
+    (tie.spec
+    constant-of-requires
+    constant-of-requires-2
+    one-constant-requires
+    returns
+    returns-2
+    tested-constant-requires
+    one-constant-requires-2
+    returns-3
+    tested-constant-requires-2
+    one-constant-requires-3
+    returns-4)

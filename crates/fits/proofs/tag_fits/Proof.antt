@@ -1,0 +1,78 @@
+-- `fits::tag_fits` meets its contract.
+use mathlib.Core.Path.{sym, _∙_}
+use Rattle.table.proofs.Questions.{told-no, told-yes}
+use Rattle.fits.proofs.Answers.{tag-of-record, tag-other, tag-of-own}
+use borrow.Author.Needs.{needs}
+use Rattle.fits.proofs.tag_fits.Statement.{statement}
+use Rattle.fits.proofs.tag_fits.Tie as tie
+
+mul-own : tie.Need-mul-own
+mul-own c = search needs
+
+element-copy-out-own : tie.Need-element-copy-out-own
+element-copy-out-own c = search needs
+
+kind-requires : tie.Need-kind-requires
+kind-requires c κs = search needs
+
+by-record-requires : tie.Need-by-record-requires
+by-record-requires c κs = search needs
+
+record-type-requires : tie.Need-record-type-requires
+record-type-requires c κs = search needs
+
+known-tag-requires : tie.Need-known-tag-requires
+known-tag-requires c κs = search needs
+
+returns : tie.Need-returns
+returns c =
+    let r = c .before in
+    let d = r .before .before .before in
+    λ types. tag-of-record _ _ _ _ (d .kind .ensures .0) _ _ _ (sym (r .before .before .by-record .ensures) ∙ r .before .if1 .taken)
+    (r .record-type .ensures .0) _ (c .known-tag .ensures types)
+
+by-own-tag-requires : tie.Need-by-own-tag-requires
+by-own-tag-requires c κs = search needs
+
+returns-2 : tie.Need-returns-2
+returns-2 c =
+    let e = c .before .before in
+    let d = e .before .before in
+    λ types. tag-other _ _ _ _ (d .kind .ensures .0) _ _ (sym (e .before .by-record .ensures) ∙ e .if1 .left)
+    (told-no (c .before .by-own-tag .ensures) (c .if2 .taken))
+
+first-dependency-requires : tie.Need-first-dependency-requires
+first-dependency-requires c κs = search needs
+
+dependency-requires : tie.Need-dependency-requires
+dependency-requires c κs = search needs
+
+known-equal-requires : tie.Need-known-equal-requires
+known-equal-requires c κs = search needs
+
+returns-3 : tie.Need-returns-3
+returns-3 c =
+    let x = c .before in
+    let p = x .before in
+    let o = p .before in
+    let d = o .before .before .before .before in
+    λ types. tag-of-own _ _ _ _ (d .kind .ensures .0) _ _ (p .first-dependency .ensures .0) (x .dependency .ensures) _ _
+    (told-yes (o .before .by-own-tag .ensures) (o .if2 .left)) _ (c .known-equal .ensures)
+
+pub tag-fits-spec : {M : Type 1} → statement M
+tag-fits-spec =
+    tie.close
+    (tie.spec
+    mul-own
+    element-copy-out-own
+    kind-requires
+    by-record-requires
+    record-type-requires
+    known-tag-requires
+    returns
+    by-own-tag-requires
+    returns-2
+    first-dependency-requires
+    dependency-requires
+    known-equal-requires
+    returns-3)
