@@ -85,7 +85,8 @@ fn same_constant(w: u32) -> u32
     x - 7
 }
 
-// The known constant of x, 0 for none: opcode 1's for a value of type Any, that of Same for another.
+// The known constant of x where nothing was tested, 0 for none: opcode 1's for a value of type Any, that of Same for another. The
+// frames are lent for the contract, which speaks of the values that the three arrays make.
 fn constant_of(words: &[u32; 256], frames: &[u8; 32], constants: &[u32; 32], x: u32) -> u32
     ensures { λ r. ⌜ held r ≡ constantsOf (valuesIn words frames constants 0 0) (depAt x) ⌝ }
 {

@@ -1,21 +1,44 @@
 -- `fits::first_tag` meets its contract.
-use Prim.Native.Nat.{ℕ}
+use mathlib.Core.Path.{_≡_}
+use mathlib.Core.Logic.{_⊎_}
+use Prim.Native.Nat.{ℕ, _≤_, _<_}
 use native.Mathlib.Omega.{arith}
+use denote.Ref.{now}
+use lib.ListN.{length}
 use Rattle.fits.proofs.Answers.{first-own, first-tested, first-none}
 use borrow.Author.Needs.{needs}
 use Rattle.fits.proofs.first_tag.Statement.{statement}
 use Rattle.fits.proofs.first_tag.Tie as tie
 
+-- ---- the two constants, and how many tags there are
+
+abbrev k : tie.After-is-listed → ℕ
+k c = c .before .before .args .k
+
 abbrev l : tie.After-is-listed → ℕ
 l c = c .before .before .args .l
+
+abbrev count : tie.After-is-listed → ℕ
+count c = length (now (c .before .before .args .tags))
+
+-- ---- whether they are tags
+
+k-listed : (c : tie.Then1) → (0 < k (c .before)) × (k (c .before) ≤ count (c .before))
+k-listed c = c .before .is-listed .ensures .0 (c .if1 .taken)
+
+k-none : (c : tie.Else1) → (k (c .before) ≡ 0) ⊎ (count (c .before) < k (c .before))
+k-none c = c .before .is-listed .ensures .1 (c .if1 .left)
+
+l-listed : (c : tie.Then2) → (0 < l (c .before .before .before)) × (l (c .before .before .before) ≤ count (c .before .before .before))
+l-listed c = c .before .is-listed2 .ensures .0 (c .if2 .taken)
+
+-- ---- the needs
 
 is-listed-requires : tie.Need-is-listed-requires
 is-listed-requires c κs = search needs
 
 sub-i : tie.Need-sub-i
-sub-i c =
-    let q = c .before .is-listed .ensures .0 (c .if1 .taken) in
-    omega arith
+sub-i c = omega (arith, k-listed c)
 
 cast-i : tie.Need-cast-i
 cast-i c = search needs
@@ -24,22 +47,16 @@ mul-t : tie.Need-mul-t
 mul-t c = search needs
 
 shared-slice-read-t : tie.Need-shared-slice-read-t
-shared-slice-read-t c =
-    let q = c .before .before .is-listed .ensures .0 (c .before .if1 .taken) in
-    omega arith
+shared-slice-read-t c = omega (arith, k-listed (c .before))
 
 returns : tie.Need-returns
-returns c =
-    let d = c .before in
-    λ types. first-own types _ _ (l (d .before)) (d .before .is-listed .ensures .0 (d .if1 .taken))
+returns c = λ types. first-own types _ _ (l (c .before .before)) (k-listed (c .before))
 
 is-listed-requires-2 : tie.Need-is-listed-requires-2
 is-listed-requires-2 c κs = search needs
 
 sub-j : tie.Need-sub-j
-sub-j c =
-    let q = c .before .is-listed2 .ensures .0 (c .if2 .taken) in
-    omega arith
+sub-j c = omega (arith, l-listed c)
 
 cast-j : tie.Need-cast-j
 cast-j c = search needs
@@ -48,22 +65,17 @@ mul-u : tie.Need-mul-u
 mul-u c = search needs
 
 shared-slice-read-u : tie.Need-shared-slice-read-u
-shared-slice-read-u c =
-    let q = c .before .before .is-listed2 .ensures .0 (c .before .if2 .taken) in
-    omega arith
+shared-slice-read-u c = omega (arith, l-listed (c .before))
 
 returns-2 : tie.Need-returns-2
 returns-2 c =
-    let e = c .before in
-    let d = e .before .before in
-    λ types. first-tested types _ _ (l (d .before)) (d .before .is-listed .ensures .1 (d .if1 .left))
-    (e .before .is-listed2 .ensures .0 (e .if2 .taken))
+    let past = c .before .before .before in
+    λ types. first-tested types _ _ (l (past .before)) (k-none past) (l-listed (c .before))
 
 returns-3 : tie.Need-returns-3
 returns-3 c =
-    let d = c .before .before in
-    λ types. first-none types _ _ (l (d .before)) (d .before .is-listed .ensures .1 (d .if1 .left))
-    (c .before .is-listed2 .ensures .1 (c .if2 .left))
+    let past = c .before .before in
+    λ types. first-none types _ _ (l (past .before)) (k-none past) (c .before .is-listed2 .ensures .1 (c .if2 .left))
 
 pub first-tag-spec : {M : Type 1} → statement M
 first-tag-spec =

@@ -7,8 +7,12 @@ use borrow.Author.Needs.{needs}
 use Rattle.fits.proofs.fits_pointer.Statement.{statement}
 use Rattle.fits.proofs.fits_pointer.Tie as tie
 
+-- past the test of Ref: the start; and past the kind wanted: where the value is no Ref
 abbrev start : tie.After-is-ref → tie.Start
 start c = c .before .before .before
+
+abbrev no-ref : tie.After-known-zero → tie.Else1
+no-ref c = c .before .before .before
 
 record-type-requires : tie.Need-record-type-requires
 record-type-requires c κs = search needs
@@ -18,47 +22,44 @@ is-ref-requires c κs = search needs
 
 returns : tie.Need-returns
 returns c =
-    let r = c .before in
-    let s = start r in
-    λ types. fits-is-ref _ _ _ (s .args .w) (now (s .args .names)) _ refl _ (r .before .record-type .ensures .0) (omega arith)
-    (omega arith) (sym (r .is-ref .ensures types) ∙ c .if1 .taken)
+    let ref = c .before in
+    let s = start ref in
+    λ types. fits-is-ref _ _ _ (s .args .w) (now (s .args .names)) _ refl _ (ref .before .record-type .ensures .0) (omega arith)
+    (omega arith) (sym (ref .is-ref .ensures types) ∙ c .if1 .taken)
 
 kind-requires : tie.Need-kind-requires
 kind-requires c κs = search needs
 
 returns-2 : tie.Need-returns-2
 returns-2 c =
-    let k = c .before in
-    let e = k .before in
-    let r = e .before in
-    λ types. fits-ref _ _ _ _ (now (start r .args .names)) _ (k .kind .ensures .0) _ (r .before .record-type .ensures .0)
-    (sym (r .is-ref .ensures types) ∙ e .if1 .left) (omega arith)
+    let no = c .before .before in
+    let ref = no .before in
+    λ types. fits-ref _ _ _ _ (now (start ref .args .names)) _ (c .before .kind .ensures .0) _ (ref .before .record-type .ensures .0)
+    (sym (ref .is-ref .ensures types) ∙ no .if1 .left) (omega arith)
 
 known-zero-requires : tie.Need-known-zero-requires
 known-zero-requires c κs = search needs
 
 returns-3 : tie.Need-returns-3
 returns-3 c =
-    let z = c .before in
-    let k = z .before .before in
-    let e = k .before in
-    let r = e .before in
-    λ types. fits-zero _ _ _ _ (now (start r .args .names)) _ (k .kind .ensures .0) _ (r .before .record-type .ensures .0)
-    (sym (r .is-ref .ensures types) ∙ e .if1 .left) (omega arith) (sym (z .known-zero .ensures types _) ∙ c .if3 .taken)
+    let zero = c .before in
+    let no = no-ref zero in
+    let ref = no .before in
+    λ types. fits-zero _ _ _ _ (now (start ref .args .names)) _ (zero .before .before .kind .ensures .0) _
+    (ref .before .record-type .ensures .0) (sym (ref .is-ref .ensures types) ∙ no .if1 .left) (omega arith)
+    (sym (zero .known-zero .ensures types _) ∙ c .if3 .taken)
 
 is-maybe-requires : tie.Need-is-maybe-requires
 is-maybe-requires c κs = search needs
 
 returns-4 : tie.Need-returns-4
 returns-4 c =
-    let f = c .before in
-    let z = f .before in
-    let k = z .before .before in
-    let e = k .before in
-    let r = e .before in
-    λ types. fits-maybe _ _ _ _ (now (start r .args .names)) _ (k .kind .ensures .0) _ (r .before .record-type .ensures .0)
-    (sym (r .is-ref .ensures types) ∙ e .if1 .left) (omega arith) (sym (z .known-zero .ensures types _) ∙ f .if3 .left) _
-    (c .is-maybe .ensures types)
+    let zero = c .before .before in
+    let no = no-ref zero in
+    let ref = no .before in
+    λ types. fits-maybe _ _ _ _ (now (start ref .args .names)) _ (zero .before .before .kind .ensures .0) _
+    (ref .before .record-type .ensures .0) (sym (ref .is-ref .ensures types) ∙ no .if1 .left) (omega arith)
+    (sym (zero .known-zero .ensures types _) ∙ c .before .if3 .left) _ (c .is-maybe .ensures types)
 
 pub fits-pointer-spec : {M : Type 1} → statement M
 fits-pointer-spec =

@@ -9,8 +9,13 @@ use borrow.Author.Needs.{needs}
 use Rattle.fits.proofs.fits_tagged.Statement.{statement}
 use Rattle.fits.proofs.fits_tagged.Tie as tie
 
+-- past the byte of the dependency wanted: the names it is read with
 abbrev names : tie.After-first-dependency → List ℕ
 names c = now (c .before .before .args .names)
+
+-- past the tag, which does not fit
+abbrev kind : tie.Else1 → tie.After-kind
+kind c = c .before .before
 
 first-dependency-requires : tie.Need-first-dependency-requires
 first-dependency-requires c κs = search needs
@@ -28,31 +33,30 @@ returns : tie.Need-returns
 returns c =
     let k = c .before .before in
     let y = k .before in
-    let p = y .before in
-    λ types. fits-tag _ _ _ _ (names p) _ (k .kind .ensures .0) _ _ (p .first-dependency .ensures .0) (y .named .ensures) (omega arith)
+    let byte = y .before in
+    λ types. fits-tag _ _ _ _ (names byte) _ (k .kind .ensures .0) _ _ (byte .first-dependency .ensures .0) (y .named .ensures) (omega arith)
     (omega arith) (sym (c .before .tag-fits .ensures types) ∙ c .if1 .taken)
 
 returns-2 : tie.Need-returns-2
 returns-2 c =
-    let e = c .before in
-    let k = e .before .before in
-    let y = k .before in
-    let p = y .before in
-    λ types. fits-present _ _ _ _ (names p) _ (k .kind .ensures .0) _ _ (p .first-dependency .ensures .0) (y .named .ensures) (omega arith)
-    (omega arith) (sym (e .before .tag-fits .ensures types) ∙ e .if1 .left) (c .if2 .taken)
+    let past = c .before in
+    let y = kind past .before in
+    let byte = y .before in
+    λ types. fits-present _ _ _ _ (names byte) _ (kind past .kind .ensures .0) _ _ (byte .first-dependency .ensures .0) (y .named .ensures)
+    (omega arith) (omega arith) (sym (past .before .tag-fits .ensures types) ∙ past .if1 .left) (c .if2 .taken)
 
 known-zero-requires : tie.Need-known-zero-requires
 known-zero-requires c κs = search needs
 
 returns-3 : tie.Need-returns-3
 returns-3 c =
-    let z = c .before in
-    let e = z .before in
-    let k = e .before .before in
-    let y = k .before in
-    let p = y .before in
-    λ types. fits-tagged _ _ _ _ (names p) _ (k .kind .ensures .0) _ _ (p .first-dependency .ensures .0) (y .named .ensures) (omega arith)
-    (omega arith) (sym (e .before .tag-fits .ensures types) ∙ e .if1 .left) (z .if2 .left) _ (c .known-zero .ensures types _)
+    let zero = c .before in
+    let past = zero .before in
+    let y = kind past .before in
+    let byte = y .before in
+    λ types. fits-tagged _ _ _ _ (names byte) _ (kind past .kind .ensures .0) _ _ (byte .first-dependency .ensures .0) (y .named .ensures)
+    (omega arith) (omega arith) (sym (past .before .tag-fits .ensures types) ∙ past .if1 .left) (zero .if2 .left) _
+    (c .known-zero .ensures types _)
 
 pub fits-tagged-spec : {M : Type 1} → statement M
 fits-tagged-spec =

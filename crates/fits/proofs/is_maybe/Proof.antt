@@ -5,6 +5,10 @@ use borrow.Author.Needs.{needs}
 use Rattle.fits.proofs.is_maybe.Statement.{statement}
 use Rattle.fits.proofs.is_maybe.Tie as tie
 
+-- past the kind of the value, from where it is Tagged
+abbrev kind : tie.Else2 → tie.After-kind
+kind c = c .before .before
+
 mul-w : tie.Need-mul-w
 mul-w c = search needs
 
@@ -18,14 +22,10 @@ record-type-requires : tie.Need-record-type-requires
 record-type-requires c κs = search needs
 
 returns : tie.Need-returns
-returns c =
-    let d = c .before .before in
-    λ types. maybe-maybe _ _ _ _ (d .kind .ensures .0) _ _ (c .record-type .ensures .0) (omega arith)
+returns c = λ types. maybe-maybe _ _ _ _ (c .before .before .kind .ensures .0) _ _ (c .record-type .ensures .0) (omega arith)
 
 returns-2 : tie.Need-returns-2
-returns-2 c =
-    let d = c .before .before in
-    λ types. maybe-other _ _ _ _ (d .kind .ensures .0) _ (λ h. omega arith) (λ h. omega arith)
+returns-2 c = λ types. maybe-other _ _ _ _ (c .before .before .kind .ensures .0) _ (λ h. omega arith) (λ h. omega arith)
 
 first-dependency-requires : tie.Need-first-dependency-requires
 first-dependency-requires c κs = search needs
@@ -39,10 +39,9 @@ known-tag-or-beyond-requires c κs = search needs
 returns-3 : tie.Need-returns-3
 returns-3 c =
     let x = c .before in
-    let p = x .before in
-    let d = p .before .before .before in
-    λ types. maybe-tagged _ _ _ _ (d .kind .ensures .0) _ _ (p .first-dependency .ensures .0) (x .dependency .ensures) _ (omega arith) _
-    (c .known-tag-or-beyond .ensures types)
+    let byte = x .before in
+    λ types. maybe-tagged _ _ _ _ (kind (byte .before) .kind .ensures .0) _ _ (byte .first-dependency .ensures .0) (x .dependency .ensures) _
+    (omega arith) _ (c .known-tag-or-beyond .ensures types)
 
 pub is-maybe-spec : {M : Type 1} → statement M
 is-maybe-spec =

@@ -5,6 +5,10 @@ use borrow.Author.Needs.{needs}
 use Rattle.fits.proofs.is_ref.Statement.{statement}
 use Rattle.fits.proofs.is_ref.Tie as tie
 
+-- past the kind of the value, from where it is Present
+abbrev kind : tie.Else3 → tie.After-kind
+kind c = c .before .before .before
+
 mul-w : tie.Need-mul-w
 mul-w c = search needs
 
@@ -18,22 +22,16 @@ record-type-requires : tie.Need-record-type-requires
 record-type-requires c κs = search needs
 
 returns : tie.Need-returns
-returns c =
-    let d = c .before .before in
-    λ types. ref-ref _ _ _ _ (d .kind .ensures .0) _ _ (c .record-type .ensures .0) (omega arith)
+returns c = λ types. ref-ref _ _ _ _ (c .before .before .kind .ensures .0) _ _ (c .record-type .ensures .0) (omega arith)
 
 record-type-requires-2 : tie.Need-record-type-requires-2
 record-type-requires-2 c κs = search needs
 
 returns-2 : tie.Need-returns-2
-returns-2 c =
-    let d = c .before .before .before in
-    λ types. ref-in _ _ _ _ (d .kind .ensures .0) _ _ (c .record-type2 .ensures .0) (omega arith)
+returns-2 c = λ types. ref-in _ _ _ _ (c .before .before .before .kind .ensures .0) _ _ (c .record-type2 .ensures .0) (omega arith)
 
 returns-3 : tie.Need-returns-3
-returns-3 c =
-    let d = c .before .before .before in
-    λ types. ref-other _ _ _ _ (d .kind .ensures .0) _ (λ h. omega arith) (λ h. omega arith) (λ h. omega arith)
+returns-3 c = λ types. ref-other _ _ _ _ (c .before .before .before .kind .ensures .0) _ (λ h. omega arith) (λ h. omega arith) (λ h. omega arith)
 
 first-dependency-requires : tie.Need-first-dependency-requires
 first-dependency-requires c κs = search needs
@@ -47,10 +45,9 @@ known-tag-requires c κs = search needs
 returns-4 : tie.Need-returns-4
 returns-4 c =
     let x = c .before in
-    let p = x .before in
-    let d = p .before .before .before .before in
-    λ types. ref-present _ _ _ _ (d .kind .ensures .0) _ _ (p .first-dependency .ensures .0) (x .dependency .ensures) _ (omega arith) _
-    (c .known-tag .ensures types)
+    let byte = x .before in
+    λ types. ref-present _ _ _ _ (kind (byte .before) .kind .ensures .0) _ _ (byte .first-dependency .ensures .0) (x .dependency .ensures) _
+    (omega arith) _ (c .known-tag .ensures types)
 
 pub is-ref-spec : {M : Type 1} → statement M
 is-ref-spec =

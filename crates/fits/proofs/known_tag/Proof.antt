@@ -11,8 +11,9 @@ use borrow.Author.Needs.{needs}
 use Rattle.fits.proofs.known_tag.Statement.{statement}
 use Rattle.fits.proofs.known_tag.Tie as tie
 
-abbrev serves : List ℕ → tie.Start → ℕ → Bool
-serves types s = tagOf (tablesOf types (now (s .args .tags))) (s .args .t)
+-- the test that a constant has to pass
+abbrev serves : List ℕ → tie.After-constant-of → ℕ → Bool
+serves types c = tagOf (tablesOf types (now (c .before .before .args .tags))) (c .before .before .args .t)
 
 constant-of-requires : tie.Need-constant-of-requires
 constant-of-requires c κs = search needs
@@ -23,8 +24,8 @@ is-tag-requires c κs = search needs
 returns : tie.Need-returns
 unfolding knownTag
 returns c =
-    let a = c .before .before in
-    λ types. known-own _ _ _ _ _ _ (a .constant-of .result) (a .constant-of .ensures) (serves types (a .before .before))
+    let own = c .before .before in
+    λ types. known-own _ _ _ _ _ _ (own .constant-of .result) (own .constant-of .ensures) (serves types own)
     (sym (c .before .is-tag .ensures types) ∙ c .if1 .taken)
 
 tested-constant-requires : tie.Need-tested-constant-requires
@@ -36,10 +37,11 @@ is-tag-requires-2 c κs = search needs
 returns-2 : tie.Need-returns-2
 unfolding knownTag
 returns-2 c =
-    let d = c .before .before in
-    let a = d .before .before in
-    λ types. known-tested _ _ _ _ _ _ (a .constant-of .result) (a .constant-of .ensures) (serves types (a .before .before))
-    (sym (d .before .is-tag .ensures types) ∙ d .if1 .left) _ (c .before .tested-constant .ensures) _ (c .is-tag2 .ensures types)
+    let tested = c .before in
+    let past = tested .before in
+    let own = past .before .before in
+    λ types. known-tested _ _ _ _ _ _ (own .constant-of .result) (own .constant-of .ensures) (serves types own)
+    (sym (past .before .is-tag .ensures types) ∙ past .if1 .left) _ (tested .tested-constant .ensures) _ (c .is-tag2 .ensures types)
 
 pub known-tag-spec : {M : Type 1} → statement M
 known-tag-spec =

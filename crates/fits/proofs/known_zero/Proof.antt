@@ -11,16 +11,17 @@ constant-of-requires c κs = search needs
 
 returns : tie.Need-returns
 returns c =
-    let a = c .before in
-    λ types tags. zero-own _ _ _ _ _ _ (a .constant-of .result) (a .constant-of .ensures) (omega arith) (tablesOf types tags) (omega arith)
+    let own = c .before in
+    λ types tags. zero-own _ _ _ _ _ _ (own .constant-of .result) (own .constant-of .ensures) (omega arith) (tablesOf types tags)
+    (omega arith)
 
 tested-constant-requires : tie.Need-tested-constant-requires
 tested-constant-requires c κs = search needs
 
 returns-2 : tie.Need-returns-2
 returns-2 c =
-    let a = c .before .before in
-    λ types tags. zero-tested _ _ _ _ _ _ (a .constant-of .result) (a .constant-of .ensures) (omega arith) (tablesOf types tags)
+    let own = c .before .before in
+    λ types tags. zero-tested _ _ _ _ _ _ (own .constant-of .result) (own .constant-of .ensures) (omega arith) (tablesOf types tags)
     (λ h. omega arith) _ (c .tested-constant .ensures)
 
 pub known-zero-spec : {M : Type 1} → statement M

@@ -5,6 +5,10 @@ use borrow.Author.Needs.{needs}
 use Rattle.fits.proofs.reference.Statement.{statement}
 use Rattle.fits.proofs.reference.Tie as tie
 
+-- past the kind of the value, from where it is Present
+abbrev kind : tie.Else3 → tie.After-kind
+kind c = c .before .before .before
+
 mul-w : tie.Need-mul-w
 mul-w c = search needs
 
@@ -18,22 +22,16 @@ record-type-requires : tie.Need-record-type-requires
 record-type-requires c κs = search needs
 
 returns : tie.Need-returns
-returns c =
-    let d = c .before .before in
-    λ types. reference-ref _ _ _ _ (d .kind .ensures .0) (omega arith) _ (c .record-type .ensures .0)
+returns c = λ types. reference-ref _ _ _ _ (c .before .before .kind .ensures .0) (omega arith) _ (c .record-type .ensures .0)
 
 record-type-requires-2 : tie.Need-record-type-requires-2
 record-type-requires-2 c κs = search needs
 
 returns-2 : tie.Need-returns-2
-returns-2 c =
-    let d = c .before .before .before in
-    λ types. reference-in _ _ _ _ (d .kind .ensures .0) (omega arith) _ (c .record-type2 .ensures .0)
+returns-2 c = λ types. reference-in _ _ _ _ (c .before .before .before .kind .ensures .0) (omega arith) _ (c .record-type2 .ensures .0)
 
 returns-3 : tie.Need-returns-3
-returns-3 c =
-    let d = c .before .before .before in
-    λ types. reference-other _ _ _ _ (d .kind .ensures .0) (λ h. omega arith) (λ h. omega arith) (λ h. omega arith)
+returns-3 c = λ types. reference-other _ _ _ _ (c .before .before .before .kind .ensures .0) (λ h. omega arith) (λ h. omega arith) (λ h. omega arith)
 
 first-dependency-requires : tie.Need-first-dependency-requires
 first-dependency-requires c κs = search needs
@@ -52,13 +50,13 @@ first-tag-requires c κs = search needs
 
 returns-4 : tie.Need-returns-4
 returns-4 c =
-    let t = c .before in
-    let k = t .before in
-    let x = k .before in
-    let p = x .before in
-    let d = p .before .before .before .before in
-    λ types. reference-present _ _ _ _ (d .kind .ensures .0) _ _ (p .first-dependency .ensures .0) (x .dependency .ensures) (omega arith) _
-    (first-known _ _ _ _ _ _ (k .constant-of .result) (k .constant-of .ensures) _ _ (t .tested-constant .ensures) _ (c .first-tag .ensures types))
+    let tested = c .before in
+    let own = tested .before in
+    let x = own .before in
+    let byte = x .before in
+    λ types. reference-present _ _ _ _ (kind (byte .before) .kind .ensures .0) _ _ (byte .first-dependency .ensures .0) (x .dependency .ensures)
+    (omega arith) _ (first-known _ _ _ _ _ _ (own .constant-of .result) (own .constant-of .ensures) _ _ (tested .tested-constant .ensures) _
+    (c .first-tag .ensures types))
 
 pub reference-spec : {M : Type 1} → statement M
 reference-spec =

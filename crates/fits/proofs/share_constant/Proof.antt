@@ -3,13 +3,21 @@ use mathlib.Core.Path.{_≡_, sym, _∙_}
 use mathlib.Core.Bool.{false}
 use Prim.Native.Nat.{ℕ}
 use native.Mathlib.Omega.{arith}
-use Rattle.fits.proofs.Answers.{share-one, share-untested, share-left, share-right}
 use Rattle.fits.specs.Numbers.{oneConstant}
+use Rattle.fits.proofs.Answers.{share-one, share-untested, share-left, share-right}
 use borrow.Author.Needs.{needs}
 use Rattle.fits.proofs.share_constant.Statement.{statement}
 use Rattle.fits.proofs.share_constant.Tie as tie
 
--- ---- the constants of x and y
+-- ---- places: past the constants of x and y, and past the test of these two alone
+
+abbrev constants : tie.Else1 → tie.After-constant-of2
+constants c = c .before .before
+
+abbrev alone : tie.After-one-constant2 → tie.Else1
+alone c = c .before .before .before
+
+-- ---- the constants, and that they are not one
 
 abbrev k : tie.After-constant-of2 → ℕ
 k c = c .before .constant-of .result
@@ -17,7 +25,7 @@ k c = c .before .constant-of .result
 abbrev l : tie.After-constant-of2 → ℕ
 l c = c .constant-of2 .result
 
-apart : (c : tie.Else1) → oneConstant (k (c .before .before)) (l (c .before .before)) ≡ false
+apart : (c : tie.Else1) → oneConstant (k (constants c)) (l (constants c)) ≡ false
 apart c = sym (c .before .one-constant .ensures) ∙ c .if1 .left
 
 -- ---- the needs
@@ -33,14 +41,14 @@ one-constant-requires c κs = search needs
 
 returns : tie.Need-returns
 returns c =
-    let a = c .before .before in
-    share-one _ _ _ _ _ _ _ (λ h. omega arith) (k a) (l a) (a .before .constant-of .ensures) (a .constant-of2 .ensures)
+    let known = c .before .before in
+    share-one _ _ _ _ _ _ _ (λ h. omega arith) (k known) (l known) (known .before .constant-of .ensures) (known .constant-of2 .ensures)
     (sym (c .before .one-constant .ensures) ∙ c .if1 .taken)
 
 returns-2 : tie.Need-returns-2
 returns-2 c =
-    let a = c .before .before .before in
-    share-untested _ _ _ _ _ _ _ (λ h. omega arith) (k a) (l a) (a .before .constant-of .ensures) (a .constant-of2 .ensures)
+    let known = constants (c .before) in
+    share-untested _ _ _ _ _ _ _ (λ h. omega arith) (k known) (l known) (known .before .constant-of .ensures) (known .constant-of2 .ensures)
     (apart (c .before)) (omega arith)
 
 tested-constant-requires : tie.Need-tested-constant-requires
@@ -51,10 +59,10 @@ one-constant-requires-2 c κs = search needs
 
 returns-3 : tie.Need-returns-3
 returns-3 c =
-    let d = c .before .before in
-    let a = d .before .before .before .before in
-    share-left _ _ _ _ _ _ _ (λ h. omega arith) (k a) (l a) (a .before .constant-of .ensures) (a .constant-of2 .ensures)
-    (apart (d .before .before)) _ (d .tested-constant .ensures) (sym (c .before .one-constant2 .ensures) ∙ c .if3 .taken)
+    let left = c .before in
+    let known = constants (alone left) in
+    share-left _ _ _ _ _ _ _ (λ h. omega arith) (k known) (l known) (known .before .constant-of .ensures) (known .constant-of2 .ensures)
+    (apart (alone left)) _ (left .before .tested-constant .ensures) (sym (left .one-constant2 .ensures) ∙ c .if3 .taken)
 
 tested-constant-requires-2 : tie.Need-tested-constant-requires-2
 tested-constant-requires-2 c κs = search needs
@@ -64,12 +72,12 @@ one-constant-requires-3 c κs = search needs
 
 returns-4 : tie.Need-returns-4
 returns-4 c =
-    let e = c .before .before in
-    let d = e .before .before in
-    let a = d .before .before .before .before in
-    share-right _ _ _ _ _ _ _ (λ h. omega arith) (k a) (l a) (a .before .constant-of .ensures) (a .constant-of2 .ensures)
-    (apart (d .before .before)) _ (d .tested-constant .ensures) (sym (e .before .one-constant2 .ensures) ∙ e .if3 .left)
-    _ (c .before .tested-constant2 .ensures) _ (c .one-constant3 .ensures)
+    let right = c .before in
+    let left = right .before .before in
+    let known = constants (alone left) in
+    share-right _ _ _ _ _ _ _ (λ h. omega arith) (k known) (l known) (known .before .constant-of .ensures) (known .constant-of2 .ensures)
+    (apart (alone left)) _ (left .before .tested-constant .ensures) (sym (left .one-constant2 .ensures) ∙ right .before .if3 .left)
+    _ (right .tested-constant2 .ensures) _ (c .one-constant3 .ensures)
 
 pub share-constant-spec : {M : Type 1} → statement M
 share-constant-spec =

@@ -6,6 +6,16 @@ use borrow.Author.Needs.{needs}
 use Rattle.fits.proofs.tag_fits.Statement.{statement}
 use Rattle.fits.proofs.tag_fits.Tie as tie
 
+-- past the kind of the value, from past each test of it
+abbrev kind-1 : tie.Then1 → tie.After-kind
+kind-1 c = c .before .before
+
+abbrev kind-2 : tie.Else1 → tie.After-kind
+kind-2 c = c .before .before
+
+abbrev past-1 : tie.Else2 → tie.Else1
+past-1 c = c .before .before
+
 mul-own : tie.Need-mul-own
 mul-own c = search needs
 
@@ -26,19 +36,18 @@ known-tag-requires c κs = search needs
 
 returns : tie.Need-returns
 returns c =
-    let r = c .before in
-    let d = r .before .before .before in
-    λ types. tag-of-record _ _ _ _ (d .kind .ensures .0) _ _ _ (sym (r .before .before .by-record .ensures) ∙ r .before .if1 .taken)
-    (r .record-type .ensures .0) _ (c .known-tag .ensures types)
+    let past = c .before in
+    let test = past .before in
+    λ types. tag-of-record _ _ _ _ (kind-1 test .kind .ensures .0) _ _ _ (sym (test .before .by-record .ensures) ∙ test .if1 .taken)
+    (past .record-type .ensures .0) _ (c .known-tag .ensures types)
 
 by-own-tag-requires : tie.Need-by-own-tag-requires
 by-own-tag-requires c κs = search needs
 
 returns-2 : tie.Need-returns-2
 returns-2 c =
-    let e = c .before .before in
-    let d = e .before .before in
-    λ types. tag-other _ _ _ _ (d .kind .ensures .0) _ _ (sym (e .before .by-record .ensures) ∙ e .if1 .left)
+    let past = c .before .before in
+    λ types. tag-other _ _ _ _ (kind-2 past .kind .ensures .0) _ _ (sym (past .before .by-record .ensures) ∙ past .if1 .left)
     (told-no (c .before .by-own-tag .ensures) (c .if2 .taken))
 
 first-dependency-requires : tie.Need-first-dependency-requires
@@ -53,11 +62,10 @@ known-equal-requires c κs = search needs
 returns-3 : tie.Need-returns-3
 returns-3 c =
     let x = c .before in
-    let p = x .before in
-    let o = p .before in
-    let d = o .before .before .before .before in
-    λ types. tag-of-own _ _ _ _ (d .kind .ensures .0) _ _ (p .first-dependency .ensures .0) (x .dependency .ensures) _ _
-    (told-yes (o .before .by-own-tag .ensures) (o .if2 .left)) _ (c .known-equal .ensures)
+    let byte = x .before in
+    let test = byte .before in
+    λ types. tag-of-own _ _ _ _ (kind-2 (past-1 test) .kind .ensures .0) _ _ (byte .first-dependency .ensures .0) (x .dependency .ensures) _ _
+    (told-yes (test .before .by-own-tag .ensures) (test .if2 .left)) _ (c .known-equal .ensures)
 
 pub tag-fits-spec : {M : Type 1} → statement M
 tag-fits-spec =

@@ -9,12 +9,12 @@ use borrow.Author.Needs.{needs}
 use Rattle.fits.proofs.value_fits.Statement.{statement}
 use Rattle.fits.proofs.value_fits.Tie as tie
 
--- past the kind of the word wanted: the names, and where it is Same
+-- past the kind wanted: the names; and that place, from where the kind is Same
 abbrev names : tie.After-kind → List ℕ
 names c = now (c .before .before .args .names)
 
-abbrev kind : tie.Then4 → tie.After-kind
-kind c = c .before .before .before .before
+abbrev kind : tie.After-named → tie.After-kind
+kind c = c .before .before .before .before .before .before
 
 kind-requires : tie.Need-kind-requires
 kind-requires c κs = search needs
@@ -43,10 +43,8 @@ named-requires c κs = search needs
 returns-4 : tie.Need-returns-4
 returns-4 c =
     let y = c .before in
-    let p = y .before in
-    let k = kind (p .before) in
-    λ types. fits-same _ _ _ _ (names k) _ (k .kind .ensures .0) _ _ (p .first-dependency .ensures .0) (y .named .ensures) (omega arith) _ refl
-    (omega arith) _ (equal-one _ _ _ (omega arith))
+    λ types. fits-same _ _ _ _ (names (kind y)) _ (kind y .kind .ensures .0) _ _ (y .before .first-dependency .ensures .0) (y .named .ensures)
+    (omega arith) _ refl (omega arith) _ (equal-one _ _ _ (omega arith))
 
 joined-requires : tie.Need-joined-requires
 joined-requires c κs = search needs
@@ -54,10 +52,8 @@ joined-requires c κs = search needs
 returns-5 : tie.Need-returns-5
 returns-5 c =
     let y = c .before .before in
-    let p = y .before in
-    let k = kind (p .before) in
-    λ types. fits-same _ _ _ _ (names k) _ (k .kind .ensures .0) _ _ (p .first-dependency .ensures .0) (y .named .ensures) (omega arith) _ refl
-    (omega arith) _ (c .joined .ensures)
+    λ types. fits-same _ _ _ _ (names (kind y)) _ (kind y .kind .ensures .0) _ _ (y .before .first-dependency .ensures .0) (y .named .ensures)
+    (omega arith) _ refl (omega arith) _ (c .joined .ensures)
 
 is-span-requires : tie.Need-is-span-requires
 is-span-requires c κs = search needs
