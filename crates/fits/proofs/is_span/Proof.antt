@@ -65,15 +65,19 @@ kinds-passed types tags c =
     let s = start (c .before) in
     span-ranked _ _ _ (s .args .w) (names s) (omega arith) (omega arith)
 
+own-record : (c : tie.After-record-type2) → c .before .record-type .result ≡ recordOf (own (start-1 c))
+own-record c = c .before .record-type .ensures .0
+
+record-wanted : (c : tie.After-record-type2) → c .record-type2 .result ≡ recordOf (start-1 c .args .w)
+record-wanted c = c .record-type2 .ensures .0
+
 record-passed : (types tags : List ℕ) (c : tie.Else2)
     → fit types tags (start-1 (c .before)) ≡ first (start-1 (c .before)) and second (start-1 (c .before))
 unfolding _and_
 record-passed types tags c =
-    let u = c .before in
-    let t = u .before in
-    let q : t .record-type .result ≡ u .record-type2 .result = omega arith in
-    kinds-passed types tags (t .before)
-    ∙ rw (eq-eqb _ _ (sym (t .record-type .ensures .0) ∙ q ∙ u .record-type2 .ensures .0))
+    let both = c .before in
+    let e : both .before .record-type .result ≡ both .record-type2 .result = omega arith in
+    kinds-passed types tags (both .before .before) ∙ rw (eq-eqb _ _ (sym (own-record both) ∙ e ∙ record-wanted both))
 
 first-told : (c : tie.After-known-equal) → c .known-equal .result ≡ first (start-2 (frame c))
 first-told c =
@@ -117,10 +121,9 @@ record-type-requires-2 c κs = search needs
 returns-2 : tie.Need-returns-2
 unfolding _and_
 returns-2 c =
-    let u = c .before in
-    let t = u .before in
-    λ types tags. sym (kinds-passed types tags (t .before)
-    ∙ rw (ne-eqb _ _ (λ h. c .if2 .taken (t .record-type .ensures .0 ∙ h ∙ sym (u .record-type2 .ensures .0)))))
+    let both = c .before in
+    λ types tags. sym (kinds-passed types tags (both .before .before)
+    ∙ rw (ne-eqb _ _ (λ h. c .if2 .taken (own-record both ∙ h ∙ sym (record-wanted both)))))
 
 frame-requires : tie.Need-frame-requires
 frame-requires c κs = search needs
