@@ -5,7 +5,7 @@ ghost use mathlib.Core.Path.{_≡_};
 ghost use mathlib.Core.List.{List, _++_};
 ghost use mathlib.Core.Bool.{true, false};
 ghost use mathlib.Core.Logic.{_⊎_};
-ghost use Prim.Native.Nat.{ℕ, _+_, _/_, _≤_, _<_};
+ghost use Prim.Native.Nat.{ℕ, _/_, _≤_, _<_};
 ghost use lib.ListN.{length, getD};
 ghost use Rattle.model.specs.Types.{typeOf, rename};
 ghost use Rattle.model.specs.Table.{tablesOf};
@@ -100,7 +100,7 @@ fn constant_of(words: &[u32; 256], frames: &[u8; 32], constants: &[u32; 32], x: 
     same_constant(w)
 }
 
-// The constant that a taken opcode 11 adds to those of x, 0 for none.
+// The constant that a taken opcode 11 adds to what is known of x, 0 for none. Only a value gains one.
 fn tested_constant(tested: u32, equal: u32, x: u32) -> u32
     ensures { λ r. ⌜ r ≡ testedConstant tested equal (depAt x) ⌝ }
 {
@@ -123,7 +123,7 @@ fn one_constant(k: u32, l: u32) -> bool
     k == l
 }
 
-// Whether x and y, which are not one, have a constant in common.
+// Whether x and y, which are not one, have a constant in common. At most one of them is the value tested.
 fn share_constant(
     words: &[u32; 256],
     frames: &[u8; 32],
@@ -167,7 +167,7 @@ fn says_same(words: &[u32; 256], frames: &[u8; 32], x: u32, y: u32) -> bool
     dependency(frames, x, word::first_dependency(w)) == y
 }
 
-// Whether x and y, which are not one, are known equal.
+// Whether x and y, which are not one, are known equal. It is called from two places, and so stays a function of its own when compiled.
 fn joined(
     words: &[u32; 256],
     frames: &[u8; 32],
@@ -379,27 +379,13 @@ fn is_span(
     }
     let first = frame(frames, v as u32);
     let d = sibling(first, word::first_dependency(own));
-    if !known_equal(
-        words,
-        frames,
-        constants,
-        tested,
-        equal,
-        d,
-        named(names, word::first_dependency(w)),
-    ) {
+    let d_wanted = named(names, word::first_dependency(w));
+    if !known_equal(words, frames, constants, tested, equal, d, d_wanted) {
         return false;
     }
     let e = sibling(first, word::second_dependency(own));
-    known_equal(
-        words,
-        frames,
-        constants,
-        tested,
-        equal,
-        e,
-        named(names, word::second_dependency(w)),
-    )
+    let e_wanted = named(names, word::second_dependency(w));
+    known_equal(words, frames, constants, tested, equal, e, e_wanted)
 }
 
 // Whether the value v fits the type word w, which is Ref or Maybe.
@@ -431,7 +417,7 @@ fn fits_pointer(
     is_maybe(tags, words, frames, constants, tested, equal, v, t)
 }
 
-// Whether a value of this kind fits Tagged, or Present, if the tag wanted is one of its record type: Ref, In, and for Tagged Maybe.
+// Whether a value of this kind fits Tagged, or Present, where the tag wanted is one of its record type: Ref, In, and for Tagged Maybe.
 fn by_record(kind: u32, present: bool) -> bool
     ensures { λ r. ⌜ r ≡ byRecord present kind ⌝ }
 {
@@ -447,7 +433,7 @@ fn by_record(kind: u32, present: bool) -> bool
     kind == word::MAYBE
 }
 
-// Whether it does so if its own tag is known equal to the one wanted: Present, and for Tagged Tagged.
+// Whether it does so where its own tag is known equal to the one wanted: Present, and for Tagged Tagged.
 fn by_own_tag(kind: u32, present: bool) -> bool
     ensures { λ r. ⌜ r ≡ byOwnTag present kind ⌝ }
 {
@@ -460,7 +446,7 @@ fn by_own_tag(kind: u32, present: bool) -> bool
     kind == word::TAGGED
 }
 
-// Whether the value v is Tagged y or Present y, known 0 apart: by its own kind first.
+// Whether the value v fits Tagged y, or Present y, by its own kind: known 0 is asked apart.
 fn tag_fits(
     tags: &[u32],
     words: &[u32; 256],
