@@ -15,6 +15,7 @@ use Rattle.model.specs.Table.{Tables, tablesOf, Routine, routineOf, rows, words
 use Rattle.model.specs.Machine.{End, halt, jump, ifEqual, ifLess, Instruction, plain, end, malformed, decode, wellFormed, targetsExist}
 use Rattle.model.specs.Reading.{Values, birthplace, typed, knownEqual, rowFits, Reading, withKind, notZero, below, notBelow, taken, untaken}
 use Rattle.model.specs.Check.{readEdges}
+use Rattle.model.proofs.Lists.{set-same}
 use Rattle.model.proofs.Logic.{byTest, byEqual, byLess, and-true}
 use Rattle.table.proofs.Laws.{row-inside}
 use Rattle.instruction.specs.Form.{leadsOn, formNo}
@@ -101,11 +102,6 @@ module _ (𝒯 : Tables) (P : Routine) (place : Question → Refusal) (b w : ℕ
   last-on l = rw (e, h, le-ltb (st .base) 256 l)
 
 -- ---- what an edge tells
-
-pub set-same : (l : List ℕ) (i : ℕ) → set l i (getD l i 0) ≡ l
-set-same [] i = refl
-set-same (x ∷ l) zero = refl
-set-same (x ∷ l) (suc i) = ap {B = List ℕ} (λ (r : List ℕ). x ∷ r) (set-same l i)
 
 pub set-again : (l : List ℕ) (i x y : ℕ) → set (set l i x) i y ≡ set l i y
 set-again [] i x y = refl

@@ -11,6 +11,7 @@ ghost use Rattle.model.specs.Table.{rows, tablesOf, routineOf, wordsOf};
 ghost use Rattle.model.specs.Machine.{decode, targetsExist, ifEqual, ifLess};
 ghost use Rattle.model.specs.Reading.{typed, rowFits, notZero, below, notBelow};
 ghost use Rattle.model.specs.Check.{readEdges};
+ghost use Rattle.instruction.specs.Rows.{opcodeRows};
 ghost use Rattle.fits.specs.Numbers.{valuesOf};
 ghost use Rattle.straight.specs.State.{reading, numbered};
 ghost use Rattle.branch.specs.End.{endOf, lastAsk};
@@ -278,6 +279,7 @@ fn edges(
 
 // Q7 to Q9 and Q13 to Q15 of the last instruction of block b.
 pub fn last(
+    rows: &[u32; 13],
     tags: &[u32],
     blocks: &[u32],
     registers: &[u8; 8],
@@ -288,14 +290,14 @@ pub fn last(
     word: u32,
     b: usize,
 ) -> u32
-    requires { ⌜ (b < 256) × (length (now blocks) ≤ 2304) ⌝ }
+    requires { ⌜ (now rows ≡ opcodeRows) × (b < 256) × (length (now blocks) ≤ 2304) ⌝ }
     ensures { λ r. ⌜ ((place : Question → Refusal) (types code views fields : List ℕ) (since : ℕ)
         → numbered place r tt ≡ lastAsk (tablesOf types (now (tags .entry))) (routineOf (now (blocks .entry)) code) place b (decode word)
         (reading (now (registers .entry)) (now (words .entry)) (now (frames .entry)) (now (constants .entry)) views fields since base))
         × (r ≤ 15) ⌝ }
 {
     let count = (blocks.len() / table::ROW_WORDS) as u32;
-    let no = instruction::form(word, true, b as u32, count);
+    let no = instruction::form(rows, word, true, b as u32, count);
     if no != 0 {
         return no;
     }

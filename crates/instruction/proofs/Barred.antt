@@ -13,18 +13,9 @@ use borrow.Author.Tests.{ltb-true, lt-ltb, eqb-true, eq-eqb}
 use Rattle.model.specs.Word.{opcodeOf, aOf, bOf, cOf}
 use Rattle.model.specs.Machine.{wellFormed}
 use Rattle.model.proofs.Logic.{byTest, byEqual, byLess}
+use Rattle.instruction.specs.Rows.{bits, opcodeRows}
 use Rattle.instruction.proofs.Forms.{registers}
 use Rattle.instruction.proofs.Laws.{all-zero, at-0, at-1, at-2, at-arithmetic, at-6, at-pointer, at-12, b-used, at-11, at-10}
-
--- bits of the parts a, b and c as bits of a word
-abbrev bits : ℕ → ℕ → ℕ → ℕ
-bits x y z = (x * 16 + y) * 65536 + z
-
--- a row for each opcode: 15 or 65535 for an unused part, 8 or 65528 for a register
-abbrev pub barred : List ℕ
-barred =
-    bits 15 15 65535 ∷ bits 8 15 0 ∷ bits 8 8 65535 ∷ bits 8 8 65528 ∷ bits 8 8 65528 ∷ bits 8 8 65528 ∷ bits 8 8 0 ∷ bits 8 8 0 ∷ bits 8 8 0
-    ∷ bits 8 8 0 ∷ bits 15 15 0 ∷ bits 8 15 0 ∷ bits 8 8 0 ∷ []
 
 -- ---- parts
 
@@ -75,10 +66,10 @@ clear-constant n h e = let s = sym (and-mask n 16) ∙ e in omega arith
 
 -- ---- the rows of several opcodes
 
-arithmetic-row : (o : ℕ) → 2 < o → o < 6 → getD barred o 0 ≡ bits 8 8 65528
+arithmetic-row : (o : ℕ) → 2 < o → o < 6 → getD opcodeRows o 0 ≡ bits 8 8 65528
 arithmetic-row o l h = byEqual o 3 (λ e. rw e) (λ n. byEqual o 4 (λ e. rw e) (λ m. let e : o ≡ 5 = omega arith in rw e))
 
-pointer-row : (o : ℕ) → 5 < o → o < 10 → getD barred o 0 ≡ bits 8 8 0
+pointer-row : (o : ℕ) → 5 < o → o < 10 → getD opcodeRows o 0 ≡ bits 8 8 0
 pointer-row o l h =
     byEqual o 6 (λ e. rw e) (λ n. byEqual o 7 (λ e. rw e) (λ m. byEqual o 8 (λ e. rw e) (λ k. let e : o ≡ 9 = omega arith in rw e)))
 
@@ -94,7 +85,7 @@ module _ (w : ℕ) where
   c-in : cOf w < 65536
   c-in = mod-lt w (pow-pos 16)
 
-  of-row : (m : ℕ) → getD barred (opcodeOf w) 0 ≡ m → bitAnd w m ≡ 0 → bitAnd w (getD barred (opcodeOf w) 0) ≡ 0
+  of-row : (m : ℕ) → getD opcodeRows (opcodeOf w) 0 ≡ m → bitAnd w m ≡ 0 → bitAnd w (getD opcodeRows (opcodeOf w) 0) ≡ 0
   of-row m r e = rw r e
 
   -- a well-formed word that numbers two registers
@@ -110,7 +101,7 @@ module _ (w : ℕ) where
   b-zero : 9 < opcodeOf w → opcodeOf w < 12 → wellFormed w ≡ true → bOf w ≡ 0
   b-zero l h q = byEqual (bOf w) 0 (λ z. z) (λ n. absurd (false≢true (b-used w l h n ∙ q)))
 
-  formed-clear : opcodeOf w ≤ 12 → wellFormed w ≡ true → bitAnd w (getD barred (opcodeOf w) 0) ≡ 0
+  formed-clear : opcodeOf w ≤ 12 → wellFormed w ≡ true → bitAnd w (getD opcodeRows (opcodeOf w) 0) ≡ 0
   formed-clear h q =
       let (x, y) = registers w q in
       byEqual (opcodeOf w) 0 (λ o. let z : w ≡ 0 = eqb-true w 0 (at-0 w o ∙ q) in rw z)
@@ -126,16 +117,16 @@ module _ (w : ℕ) where
       (λ k. let o : opcodeOf w ≡ 12 = omega arith in of-row _ (rw o) (both 0 (omega arith) q (and-zero-r (cOf w))))))))))
 
   -- the parts of a word in which nothing of its row is set
-  parts-of : (x y z : ℕ) → x < 16 → y < 16 → z < 65536 → getD barred (opcodeOf w) 0 ≡ bits x y z → bitAnd w (getD barred (opcodeOf w) 0) ≡ 0
+  parts-of : (x y z : ℕ) → x < 16 → y < 16 → z < 65536 → getD opcodeRows (opcodeOf w) 0 ≡ bits x y z → bitAnd w (getD opcodeRows (opcodeOf w) 0) ≡ 0
       → (bitAnd (aOf w) x ≡ 0) × (bitAnd (bOf w) y ≡ 0) × (bitAnd (cOf w) z ≡ 0)
   parts-of x y z hx hy hz r e = cleared w x y z hx hy hz (rw r at e)
 
-  both-in : (z : ℕ) → z < 65536 → getD barred (opcodeOf w) 0 ≡ bits 8 8 z → bitAnd w (getD barred (opcodeOf w) 0) ≡ 0 → (aOf w < 8) × (bOf w < 8) × (bitAnd (cOf w) z ≡ 0)
+  both-in : (z : ℕ) → z < 65536 → getD opcodeRows (opcodeOf w) 0 ≡ bits 8 8 z → bitAnd w (getD opcodeRows (opcodeOf w) 0) ≡ 0 → (aOf w < 8) × (bOf w < 8) × (bitAnd (cOf w) z ≡ 0)
   both-in z h r e =
       let (x, y, k) = parts-of 8 8 z (omega arith) (omega arith) h r e in
       (clear-register (aOf w) a-in x, clear-register (bOf w) b-in y, k)
 
-  clear-formed : opcodeOf w ≤ 12 → (opcodeOf w ≡ 6 → ⊥) → bitAnd w (getD barred (opcodeOf w) 0) ≡ 0 → true ≡ wellFormed w
+  clear-formed : opcodeOf w ≤ 12 → (opcodeOf w ≡ 6 → ⊥) → bitAnd w (getD opcodeRows (opcodeOf w) 0) ≡ 0 → true ≡ wellFormed w
   clear-formed h n6 e =
       byEqual (opcodeOf w) 0
       (λ o. let (x, y, k) = parts-of 15 15 65535 (omega arith) (omega arith) (omega arith) (rw o) e in
@@ -161,11 +152,11 @@ module _ (w : ℕ) where
 
   -- xs has the rows of the code
   module _ (xs : List ℕ) where
-    pub set-bit : opcodeOf w ≤ 12 → (bitAnd w (getD xs (opcodeOf w) 0) ≡ 0 → ⊥) → xs ≡ barred → false ≡ wellFormed w
+    pub set-bit : opcodeOf w ≤ 12 → (bitAnd w (getD xs (opcodeOf w) 0) ≡ 0 → ⊥) → xs ≡ opcodeRows → false ≡ wellFormed w
     set-bit h n t = byTest (wellFormed w) (λ q. absurd (n (rw t (formed-clear h q)))) (λ q. sym q)
 
-    pub divides : opcodeOf w ≡ 6 → bitAnd w (getD xs (opcodeOf w) 0) ≡ 0 → xs ≡ barred → ltb 0 (cOf w) ≡ wellFormed w
+    pub divides : opcodeOf w ≡ 6 → bitAnd w (getD xs (opcodeOf w) 0) ≡ 0 → xs ≡ opcodeRows → ltb 0 (cOf w) ≡ wellFormed w
     divides o e t = let (x, y, k) = both-in 0 (omega arith) (rw o) (rw t at e) in at-6 w o x y
 
-    pub no-bit : opcodeOf w ≤ 12 → (opcodeOf w ≡ 6 → ⊥) → bitAnd w (getD xs (opcodeOf w) 0) ≡ 0 → xs ≡ barred → true ≡ wellFormed w
+    pub no-bit : opcodeOf w ≤ 12 → (opcodeOf w ≡ 6 → ⊥) → bitAnd w (getD xs (opcodeOf w) 0) ≡ 0 → xs ≡ opcodeRows → true ≡ wellFormed w
     no-bit h n e t = clear-formed h n (rw t at e)

@@ -3,6 +3,7 @@ ghost use mathlib.Core.Path.{_≡_};
 ghost use mathlib.Core.Bool.{Bool, true};
 ghost use Prim.Native.Nat.{ℕ, _/_, _<_};
 ghost use Rattle.model.specs.Machine.{decode, wellFormed};
+ghost use Rattle.instruction.specs.Rows.{opcodeRows};
 ghost use Rattle.instruction.specs.Form.{leadsOn, formNo};
 
 // The opcodes, told apart by these names in the check and in a run.
@@ -32,31 +33,40 @@ pub const IF_EQUAL: u32 = 11;
 
 pub const IF_LESS: u32 = 12;
 
-// Q7: a known opcode with its parts in range, unused parts zero and no divisor 0. Its row has the bits that must not be set: all of
-// an unused part, all but the low three of a register's.
-pub fn well_formed(w: u32) -> bool
+// A row for each opcode, with the bits of a word that must not be set: all of an unused part, all but the low three of a register's.
+const ROWS: [u32; 13] = [
+    0xffffff, // halt
+    0x8f0000, // constant
+    0x88ffff, // copy
+    0x88fff8, // add
+    0x88fff8, // subtract
+    0x88fff8, // multiply
+    0x880000, // divide
+    0x880000, // move
+    0x880000, // load
+    0x880000, // store
+    0xff0000, // jump
+    0x8f0000, // if equal
+    0x880000, // if less
+];
+
+// The rows, made once by a check or a run and lent down: a constant array is laid out anew wherever it is named.
+pub fn opcode_rows() -> [u32; 13]
+    ensures { λ r. ⌜ r ≡ opcodeRows ⌝ }
+{
+    ROWS
+}
+
+// Q7: a known opcode with its parts in range, unused parts zero and no divisor 0.
+pub fn well_formed(rows: &[u32; 13], w: u32) -> bool
+    requires { ⌜ now rows ≡ opcodeRows ⌝ }
     ensures { λ r. ⌜ r ≡ wellFormed w ⌝ }
 {
     let op = w / 16777216;
     if IF_LESS < op {
         return false;
     }
-    let barred = [
-        0xffffff, // halt
-        0x8f0000, // constant
-        0x88ffff, // copy
-        0x88fff8, // add
-        0x88fff8, // subtract
-        0x88fff8, // multiply
-        0x880000, // divide
-        0x880000, // move
-        0x880000, // load
-        0x880000, // store
-        0xff0000, // jump
-        0x8f0000, // if equal
-        0x880000, // if less
-    ];
-    let set = w & barred[op as usize];
+    let set = w & rows[op as usize];
     if set != 0 {
         return false;
     }
@@ -86,11 +96,11 @@ pub fn targets_exist(w: u32, b: u32, count: u32) -> bool
 }
 
 // The first no of Q7, Q8 and Q9 at an instruction of block b, as a number; last: it is the block's last.
-pub fn form(w: u32, last: bool, b: u32, count: u32) -> u32
-    requires { ⌜ b < 4294967295 ⌝ }
+pub fn form(rows: &[u32; 13], w: u32, last: bool, b: u32, count: u32) -> u32
+    requires { ⌜ (now rows ≡ opcodeRows) × (b < 4294967295) ⌝ }
     ensures { λ r. ⌜ r ≡ formNo (decode w) last b count ⌝ }
 {
-    if !well_formed(w) {
+    if !well_formed(rows, w) {
         return 7;
     }
     let op = w / 16777216;

@@ -5,6 +5,7 @@ ghost use lib.ListN.{length, getD};
 ghost use Rattle.model.specs.Question.{ok};
 ghost use Rattle.model.specs.Table.{Routine, routineOf, startOf, rows, lengthsAsk};
 ghost use Rattle.model.specs.Machine.{steps, run, returned};
+ghost use Rattle.instruction.specs.Rows.{opcodeRows};
 ghost use Rattle.step.specs.Answer.{at, exitOf};
 ghost use Rattle.machine.specs.Run.{Covers, ranOf};
 use model::RunAnswer;
@@ -23,9 +24,9 @@ struct Ended {
 }
 
 // A block, whose code is one part of the code table that starts at its first instruction. The code has room words from there on: Q22
-// asks whether an offset is below. An instruction takes the registers by value; a block is lent them, so that they are not copied at
-// its ends.
+// asks whether an offset is below. The word is read before it is asked whether it is the last, so that reading it waits for nothing.
 fn run_block(
+    rows: &[u32; 13],
     part: &[u32],
     room: usize,
     registers: &mut [u32; 8],
@@ -33,7 +34,7 @@ fn run_block(
     b: u32,
     count: u32,
 ) -> Ended
-    requires { ⌜ (1 ≤ length (now part)) × (b < 4294967295) ⌝ }
+    requires { ⌜ (now rows ≡ opcodeRows) × (1 ≤ length (now part)) × (b < 4294967295) ⌝ }
     ensures steps { λ r. ⌜ ((P : Routine) (f n : ℕ) → P .count ≡ count → Covers P b (now (part .entry)) room
         → exitOf (r .exit) (at b (r .at) (now (registers .exit)) (now (memory .exit)) f (n + r .at))
         ≡ steps P (P .long b) (at b 0 (now (registers .entry)) (now (memory .entry)) f n)) ⌝ }
@@ -41,18 +42,19 @@ fn run_block(
 {
     let last = part.len() - 1;
     let mut i = 0;
-    while i < last {
+    loop {
         if room <= i {
             return Ended {
                 exit: Exit::No(OUT_OF_CODE),
                 at: i,
             };
         }
-        let e = step::effect_of(registers, part[i]);
-        let s = step::carry_out(*registers, memory, e);
-        let number = s.number;
-        let next = s.registers;
-        *registers = next;
+        let w = part[i];
+        if i == last {
+            let exit = step::leave(rows, registers, w, b, count);
+            return Ended { exit, at: i };
+        }
+        let number = step::advance(rows, registers, memory, w);
         if number != 0 {
             return Ended {
                 exit: Exit::No(number),
@@ -61,14 +63,6 @@ fn run_block(
         }
         i += 1;
     }
-    if room <= i {
-        return Ended {
-            exit: Exit::No(OUT_OF_CODE),
-            at: i,
-        };
-    }
-    let exit = step::leave(registers, part[i], b, count);
-    Ended { exit, at: i }
 }
 
 // ---- a run
@@ -106,6 +100,7 @@ fn run_blocks(
     ensures { λ r. ⌜ (r ≡ returned (ranOf (now (blocks .entry)) (now (code .entry)) (now (memory .entry)) block registers budget))
         × (now (memory .exit) ≡ ranOf (now (blocks .entry)) (now (code .entry)) (now (memory .entry)) block registers budget .memory) ⌝ }
 {
+    let rows = instruction::opcode_rows();
     let count = (blocks.len() / table::ROW_WORDS) as u32;
     let mut b = block;
     let mut current = registers;
@@ -115,7 +110,15 @@ fn run_blocks(
         let first = starts[k] as usize;
         let end = starts[k + 1] as usize;
         let room = code.len() - first;
-        let e = run_block(&code[first..end], room, &mut current, memory, b, count);
+        let e = run_block(
+            &rows,
+            &code[first..end],
+            room,
+            &mut current,
+            memory,
+            b,
+            count,
+        );
         let index = (first + e.at) as u32;
         let exit = e.exit;
         match exit {
@@ -153,9 +156,9 @@ pub fn run(
     ensures { λ r. ⌜ (r ≡ returned (run (now (blocks .entry)) (now (code .entry)) (now (memory .entry)) block registers budget))
         × (now (memory .exit) ≡ run (now (blocks .entry)) (now (code .entry)) (now (memory .entry)) block registers budget .memory) ⌝ }
 {
-    let rows = table::code_lengths(blocks.len(), code.len());
-    if rows.number != 0 {
-        return unopened(rows, registers);
+    let tables = table::code_lengths(blocks.len(), code.len());
+    if tables.number != 0 {
+        return unopened(tables, registers);
     }
     let mut starts = [0u32; 257];
     let lengths = table::lengths(blocks, code, &mut starts);

@@ -1,4 +1,4 @@
--- One instruction: a law for each way out of `effect_of`, `carry_out` and `leave`.
+-- One instruction: a law for each way out of `effect_of`, `reached` and `leave`.
 use mathlib.Core.Path.{_≡_, refl, sym, _∙_}
 use mathlib.Core.Logic.{_⊎_, inl, inr}
 use mathlib.Core.Bool.{Bool, true, false}
@@ -6,21 +6,21 @@ use mathlib.Core.List.{List}
 use Prim.Native.Nat.{ℕ, suc, _+_, _/_, _%_, _<_, _≤_}
 use native.Mathlib.Numerals.{add-one}
 use native.Mathlib.Omega.{arith}
-use lib.Dec.{ltb}
+use lib.Dec.{ltb, eqb}
 use lib.ListN.{length, getD, set}
 use borrow.Author.Tests.{lt-ltb, le-ltb, ltb-true, eq-eqb, ne-eqb}
-use Rattle.model.specs.Question.{questionOf}
+use Rattle.model.specs.Question.{pick, questionOf}
 use Rattle.model.specs.Word.{opcodeOf, aOf, bOf, cOf, sum, difference, product, signed, moved}
 use Rattle.model.specs.Table.{Routine}
-use Rattle.model.specs.Machine.{Plain, constant, copy, add, subtract, multiply, divide, move, load, store, End, halt, jump, ifEqual, ifLess, Instruction, plain, end, malformed, decode, hasForm, formed, wellFormed, put, reg, effect, addressed, registersAfter, memoryAfter, next, targetsExist, State, need, leave, perform}
+use Rattle.model.specs.Machine.{Plain, constant, copy, add, subtract, multiply, divide, move, load, store, End, halt, jump, ifEqual, ifLess, Instruction, plain, end, malformed, decode, hasForm, formed, wellFormed, put, reg, effect, addressed, registersAfter, memoryAfter, next, targetsExist, State, Step, need, leave, perform}
 use Rattle.model.proofs.Logic.{byTest, byEqual, byLess}
+use Rattle.model.proofs.Lists.{set-same}
 use Rattle.instruction.specs.Form.{leadsOn, formNo}
 use Rattle.instruction.proofs.Forms.{row-0, row-1, row-2, row-3, row-4, row-5, row-6, row-7, row-8, row-9, row-10, row-11, row-12, decoded, registers, known}
 use Rattle.instruction.proofs.Laws.{at-arithmetic, at-6, plain-word, end-word}
 use Rattle.step.specs.declared.Effect.{Effect}
-use Rattle.step.specs.declared.Effect.the-variants.{Put, Read, Write, Refused}
 use Rattle.step.specs.declared.Exit.the-variants.{To, Halted, No}
-use Rattle.step.specs.Answer.{at, stepOf, past, does, exitOf}
+use Rattle.step.specs.Answer.{at, stepOf, past, valueOf, onRegister, onMemory, putting, does, exitOf}
 
 -- ---- the effect of an instruction inside a block
 
@@ -50,16 +50,9 @@ inside-word w n e z =
     let p = sym e ∙ z in
     (formed-word w p, byEqual (opcodeOf w) 0 (λ o. absurd (not-end w p (inl o))) (λ o. omega arith), byLess (opcodeOf w) 10 (λ o. o) (λ o. absurd (not-end w p (inr o))))
 
-above : {o : ℕ} (k : ℕ) → k < o → (o ≡ suc k → ⊥) → suc k < o
-above k h n = omega arith
-
--- opcode 9 is left where the others have been told apart
-pub stores : (w : ℕ) → Inside w → (o : ℕ) → o ≡ opcodeOf w → (o ≡ 1 → ⊥) → (o ≡ 2 → ⊥) → (o ≡ 3 → ⊥) → (o ≡ 4 → ⊥) → (o ≡ 5 → ⊥) → (o ≡ 6 → ⊥) → (o ≡ 7 → ⊥) → (o ≡ 8 → ⊥)
-    → opcodeOf w ≡ 9
-stores w (q, l, h) o e n1 n2 n3 n4 n5 n6 n7 n8 = last (above 7 (above 6 (above 5 (above 4 (above 3 (above 2 (above 1 (above 0 (omega arith) n1) n2) n3) n4) n5) n6) n7) n8)
-  where
-    last : 8 < o → opcodeOf w ≡ 9
-    last g = omega arith
+-- an opcode that is neither a load nor a store
+pub fewer : (w : ℕ) → Inside w → (opcodeOf w ≡ 8 → ⊥) → (opcodeOf w ≡ 9 → ⊥) → opcodeOf w < 8
+fewer w (q, l, h) n8 n9 = byLess (opcodeOf w) 8 (λ k. k) (λ k. absurd (byEqual (opcodeOf w) 8 n8 (λ n. n9 (omega arith))))
 
 -- the third part of a sum, difference or product numbers a register
 third-register : (w : ℕ) → wellFormed w ≡ true → 2 < opcodeOf w → opcodeOf w < 6 → cOf w % 8 ≡ cOf w
@@ -71,102 +64,101 @@ third-register w q l h =
 pub divisor : (w : ℕ) → wellFormed w ≡ true → opcodeOf w ≡ 6 → 0 < cOf w
 divisor w q e = let (x, y) = registers w q in ltb-true 0 (cOf w) (at-6 w e x y ∙ q)
 
+-- one of five words, chosen in five steps
+pub chosen : (o x y c s d sums p pairs t more low v : ℕ) → s ≡ sum x y → d ≡ difference x y → sums ≡ pick (eqb o 3) s d
+    → p ≡ product x y → pairs ≡ pick (eqb o 5) p sums → t ≡ moved x (signed c) → more ≡ pick (eqb o 7) t pairs
+    → low ≡ pick (eqb o 1) c x → v ≡ pick (ltb o 3) low more → v ≡ valueOf o x y c
+unfolding valueOf
+chosen o x y c s d sums p pairs t more low v e1 e2 e3 e4 e5 e6 e7 e8 e9 = rw (e9, e8, e7, e6, e5, e4, e3, e2, e1)
+
 module _ (P : Routine) (b j f n : ℕ) (r m : List ℕ) (d : suc j ≡ P .long b → ⊥) (w : ℕ) where
   abbrev here : State
   here = at b j r m f n
 
-  -- Q7 or Q8
-  pub form-refuses : (k : ℕ) → k ≡ formNo (decode w) false 0 0 → (k ≡ 0 → ⊥) → does (Refused k) here ≡ perform P (decode w) here
+  -- Q7 or Q8, and the register keeps its word
+  pub form-refuses : (k a : ℕ) → k ≡ formNo (decode w) false 0 0 → (k ≡ 0 → ⊥) → does (onRegister k a (reg r a)) here ≡ perform P (decode w) here
   unfolding formNo does stepOf questionOf perform need
-  form-refuses k e z = go (decode w) e
+  form-refuses k a e z = rw (set-same r a) (go (decode w) e)
     where
-      go : (x : Instruction) → k ≡ formNo x false 0 0 → does (Refused k) here ≡ perform P x here
+      go : (x : Instruction) → k ≡ formNo x false 0 0 → stepOf k here (past here) ≡ perform P x here
       go malformed e = rw e
       go (plain x) e = absurd (z e)
       go (end x) e = rw (e, ne-eqb (suc j) (P .long b) d)
 
-  module _ (q : wellFormed w ≡ true) where
-    puts : (x : Plain) (t : Bool) (a v : ℕ) → decode w ≡ formed t (plain x) → put a v ≡ effect x r → does (Put a v) here ≡ perform P (decode w) here
-    unfolding does perform need addressed
-    puts x t a v e p = rw (decoded w t (plain x) refl e q, ne-eqb (suc j) (P .long b) d, ← p)
+  module _ (q : wellFormed w ≡ true) (a : ℕ) (ea : a ≡ aOf w) where
+    puts : (x : Plain) (t : Bool) (v : ℕ) → decode w ≡ formed t (plain x) → put (aOf w) v ≡ effect x r → does (onRegister 0 a v) here ≡ perform P (decode w) here
+    unfolding does stepOf perform need addressed registersAfter memoryAfter
+    puts x t v e p = rw (ea, decoded w t (plain x) refl e q, ne-eqb (suc j) (P .long b) d, ← p)
 
-    module _ (a : ℕ) (ea : a ≡ aOf w) where
-      module _ (c : ℕ) (ec : c ≡ cOf w) where
-        pub does-1 : opcodeOf w ≡ 1 → does (Put a c) here ≡ perform P (decode w) here
-        unfolding effect
-        does-1 o = rw (ea, ec) (puts (constant (aOf w) (cOf w)) _ (aOf w) (cOf w) (row-1 w o) refl)
+    module _ (c : ℕ) (ec : c ≡ cOf w) (x b' : ℕ) (eb : b' ≡ bOf w) (ex : x ≡ reg r b') where
+      pub loads : opcodeOf w ≡ 8 → (z : ℕ) → z ≡ sum x c → does (onMemory 1 z a (reg r a)) here ≡ perform P (decode w) here
+      unfolding effect does perform need addressed
+      loads o z ez =
+          let p = decoded w _ (plain (load (aOf w) (bOf w) (cOf w))) refl (row-8 w o) q in
+          rw (set-same r a, ez, ex, ea, eb, ec, p, ne-eqb (suc j) (P .long b) d)
 
-        module _ (x b' : ℕ) (eb : b' ≡ bOf w) (ex : x ≡ reg r b') where
-          pub does-2 : opcodeOf w ≡ 2 → does (Put a x) here ≡ perform P (decode w) here
-          unfolding effect
-          does-2 o = rw (ex, ea, eb) (puts (copy (aOf w) (bOf w)) _ (aOf w) _ (row-2 w o) refl)
+      pub stores : opcodeOf w ≡ 9 → (z : ℕ) → z ≡ sum x c → does (onMemory 2 z a (reg r a)) here ≡ perform P (decode w) here
+      unfolding effect does perform need addressed registersAfter
+      stores o z ez =
+          let p = decoded w _ (plain (store (aOf w) (bOf w) (cOf w))) refl (row-9 w o) q in
+          rw (set-same r a, ez, ex, ea, eb, ec, p, ne-eqb (suc j) (P .long b) d)
 
-          module _ (y : ℕ) (ey : y ≡ reg r (c % 8)) (v : ℕ) where
-            pub does-3 : opcodeOf w ≡ 3 → v ≡ sum x y → does (Put a v) here ≡ perform P (decode w) here
-            unfolding effect
-            does-3 o ev =
-                rw (ev, ex, ey, ea, eb, ec)
-                (puts (add (aOf w) (bOf w) (cOf w)) _ (aOf w) _ (row-3 w o) (rw (third-register w q (omega arith) (omega arith))))
+      pub divides : opcodeOf w ≡ 6 → (v : ℕ) → v ≡ x / c → does (onRegister 0 a v) here ≡ perform P (decode w) here
+      unfolding effect
+      divides o v ev = rw (ev, ex, eb, ec) (puts (divide (aOf w) (bOf w) (cOf w)) _ _ (row-6 w o) refl)
 
-            pub does-4 : opcodeOf w ≡ 4 → v ≡ difference x y → does (Put a v) here ≡ perform P (decode w) here
-            unfolding effect
-            does-4 o ev =
-                rw (ev, ex, ey, ea, eb, ec)
-                (puts (subtract (aOf w) (bOf w) (cOf w)) _ (aOf w) _ (row-4 w o) (rw (third-register w q (omega arith) (omega arith))))
+      -- the other opcodes
+      module _ (y : ℕ) (ey : y ≡ reg r (c % 8)) where
+        third : 2 < opcodeOf w → opcodeOf w < 6 → y ≡ reg r (cOf w)
+        third l h = ey ∙ rw (ec, third-register w q l h)
 
-            pub does-5 : opcodeOf w ≡ 5 → v ≡ product x y → does (Put a v) here ≡ perform P (decode w) here
-            unfolding effect
-            does-5 o ev =
-                rw (ev, ex, ey, ea, eb, ec)
-                (puts (multiply (aOf w) (bOf w) (cOf w)) _ (aOf w) _ (row-5 w o) (rw (third-register w q (omega arith) (omega arith))))
+        pub values : 0 < opcodeOf w → opcodeOf w < 8 → (opcodeOf w ≡ 6 → ⊥) → (o v : ℕ) → o ≡ opcodeOf w → v ≡ valueOf o x y c
+            → does (onRegister 0 a v) here ≡ perform P (decode w) here
+        unfolding effect valueOf
+        values l h n6 o v eo ev =
+            byEqual (opcodeOf w) 1 (λ e. rw (ev, eo, e, ec) (puts (constant (aOf w) (cOf w)) _ _ (row-1 w e) refl))
+            (λ n1. byEqual (opcodeOf w) 2 (λ e. rw (ev, eo, e, ex, eb) (puts (copy (aOf w) (bOf w)) _ _ (row-2 w e) refl))
+            (λ n2. byEqual (opcodeOf w) 3
+            (λ e. rw (ev, eo, e, third (omega arith) (omega arith), ex, eb) (puts (add (aOf w) (bOf w) (cOf w)) _ _ (row-3 w e) refl))
+            (λ n3. byEqual (opcodeOf w) 4
+            (λ e. rw (ev, eo, e, third (omega arith) (omega arith), ex, eb) (puts (subtract (aOf w) (bOf w) (cOf w)) _ _ (row-4 w e) refl))
+            (λ n4. byEqual (opcodeOf w) 5
+            (λ e. rw (ev, eo, e, third (omega arith) (omega arith), ex, eb) (puts (multiply (aOf w) (bOf w) (cOf w)) _ _ (row-5 w e) refl))
+            (λ n5. let e : opcodeOf w ≡ 7 = omega arith in
+            rw (ev, eo, e, ex, eb, ec) (puts (move (aOf w) (bOf w) (cOf w)) _ _ (row-7 w e) refl))))))
 
-          pub does-6 : opcodeOf w ≡ 6 → (v : ℕ) → v ≡ x / c → does (Put a v) here ≡ perform P (decode w) here
-          unfolding effect
-          does-6 o v ev = rw (ev, ex, ea, eb, ec) (puts (divide (aOf w) (bOf w) (cOf w)) _ (aOf w) _ (row-6 w o) refl)
+-- ---- an effect on memory
 
-          pub does-7 : opcodeOf w ≡ 7 → (v : ℕ) → v ≡ moved x (signed c) → does (Put a v) here ≡ perform P (decode w) here
-          unfolding effect
-          does-7 o v ev = rw (ev, ex, ea, eb, ec) (puts (move (aOf w) (bOf w) (cOf w)) _ (aOf w) _ (row-7 w o) refl)
+module _ (b j f n : ℕ) (l m : List ℕ) (e : Effect) where
+  abbrev before : State
+  before = at b j l m f n
 
-          pub does-8 : opcodeOf w ≡ 8 → (z : ℕ) → z ≡ sum x c → does (Read a z) here ≡ perform P (decode w) here
-          unfolding effect does perform need addressed
-          does-8 o z ez =
-              rw (ez, ex, ea, eb, ec, decoded w _ (plain (load (aOf w) (bOf w) (cOf w))) refl (row-8 w o) q, ne-eqb (suc j) (P .long b) d)
-
-          pub does-9 : opcodeOf w ≡ 9 → (z y : ℕ) → z ≡ sum x c → y ≡ reg r a → does (Write z y) here ≡ perform P (decode w) here
-          unfolding effect does perform need addressed
-          does-9 o z y ez ey =
-              rw (ez, ey, ex, ea, eb, ec, decoded w _ (plain (store (aOf w) (bOf w) (cOf w))) refl (row-9 w o) q, ne-eqb (suc j) (P .long b) d)
-
--- ---- an effect carried out
-
-module _ (b j f n : ℕ) (r m : List ℕ) (e : Effect) (s : State) where
-  pub put-done : (a v : ℕ) (r' : List ℕ) → e ≡ Put a v → r' ≡ set r a v → stepOf 0 s (at b (suc j) r' m f (suc n)) ≡ does e (at b j r m f n)
-  unfolding stepOf does registersAfter memoryAfter
-  put-done a v r' q er = rw (q, er)
-
-  module _ (a x : ℕ) (q : e ≡ Read a x) where
-    pub read-past : length m ≤ x → stepOf 18 (at b j r m f n) s ≡ does e (at b j r m f n)
+  module _ (q : e .access ≡ 1) where
+    pub read-past : length m ≤ e .at → (s : State) → stepOf 18 (putting e before) s ≡ does e before
     unfolding stepOf questionOf does need
-    read-past h = rw (q, le-ltb x (length m) h)
+    read-past h s = rw (q, le-ltb (e .at) (length m) h)
 
-    pub read-done : x < length m → (r' : List ℕ) → r' ≡ set r a (getD m x 0) → stepOf 0 s (at b (suc j) r' m f (suc n)) ≡ does e (at b j r m f n)
+    pub read-done : e .at < length m → (s : State) → stepOf 0 s (past (at b j (set l (e .a) (getD m (e .at) 0)) m f n)) ≡ does e before
     unfolding stepOf does need registersAfter memoryAfter
-    read-done h r' er = rw (q, lt-ltb x (length m) h, er)
+    read-done h s = rw (q, lt-ltb (e .at) (length m) h)
 
-  module _ (x y : ℕ) (q : e ≡ Write x y) where
-    pub write-past : length m ≤ x → stepOf 18 (at b j r m f n) s ≡ does e (at b j r m f n)
+  module _ (q : e .access ≡ 2) where
+    pub write-past : length m ≤ e .at → (s : State) → stepOf 18 (putting e before) s ≡ does e before
     unfolding stepOf questionOf does need
-    write-past h = rw (q, le-ltb x (length m) h)
+    write-past h s = rw (q, le-ltb (e .at) (length m) h)
 
-    pub write-done : x < length m → stepOf 0 s (at b (suc j) r (set m x y) f (suc n)) ≡ does e (at b j r m f n)
+    pub write-done : e .at < length m → (s : State) → stepOf 0 s (past (at b j (set l (e .a) (e .v)) (set m (e .at) (e .v)) f n)) ≡ does e before
     unfolding stepOf does need registersAfter memoryAfter
-    write-done h = rw (q, lt-ltb x (length m) h)
+    write-done h s = rw (q, lt-ltb (e .at) (length m) h)
 
-pub not-done : (b j f n : ℕ) (r m : List ℕ) (e : Effect) (k : ℕ) → e ≡ Refused k
-    → stepOf k (at b j r m f n) (past (at b j r m f n)) ≡ does e (at b j r m f n)
-unfolding does
-not-done b j f n r m e k q = rw q
+  pub not-reached : (e .access ≡ 1 → ⊥) → (e .access ≡ 2 → ⊥) → stepOf (e .number) (putting e before) (past (putting e before)) ≡ does e before
+  unfolding does
+  not-reached n1 n2 = rw (ne-eqb (e .access) 1 n1, ne-eqb (e .access) 2 n2)
+
+-- registers that are those handed back
+pub taken-over : (b j f n k : ℕ) (r next m : List ℕ) (x : Step) → r ≡ next
+    → stepOf k (at b j next m f n) (past (at b j next m f n)) ≡ x → stepOf k (at b j r m f n) (past (at b j r m f n)) ≡ x
+taken-over b j f n k r next m x e p = rw e p
 
 -- ---- the last instruction of a block
 

@@ -1,3 +1,2 @@
--- Laws of the crate: registers and one instruction.
-pub mod Registers
+-- Laws of the crate: one instruction.
 pub mod Instructions

@@ -2,13 +2,14 @@
 ghost use mathlib.Core.Path.{_≡_};
 ghost use mathlib.Core.List.{List};
 ghost use Prim.Native.Nat.{ℕ, suc, _<_};
-ghost use lib.Dec.{ltb, eqb};
+ghost use lib.Dec.{ltb};
 ghost use lib.ListN.{set};
 ghost use Rattle.model.specs.Question.{pick};
 ghost use Rattle.model.specs.Word.{sum, signed, moved};
 ghost use Rattle.model.specs.Table.{Routine};
-ghost use Rattle.model.specs.Machine.{decode, perform};
-ghost use Rattle.step.specs.Answer.{at, does, stepOf, past, exitOf};
+ghost use Rattle.model.specs.Machine.{decode, reg, perform};
+ghost use Rattle.instruction.specs.Rows.{opcodeRows};
+ghost use Rattle.step.specs.Answer.{at, valueOf, onRegister, onMemory, does, stepOf, past, exitOf};
 
 // How a block is left: to a block, by a halt, or with the number of a question that had a no.
 pub enum Exit {
@@ -17,34 +18,29 @@ pub enum Exit {
     No(u32),
 }
 
-const REGISTERS: u32 = 8;
+const REGISTERS: usize = 8;
 
 // The number of Q18.
 const OUT_OF_MEMORY: u32 = 18;
 
-// v where a is k, else the old word.
-fn chosen(a: usize, k: usize, v: u32, old: u32) -> u32
-    ensures { λ r. ⌜ r ≡ pick (eqb a k) v old ⌝ }
-{
-    if a == k {
-        return v;
-    }
-    old
-}
-
-// The registers with v at a, by eight choices: a store at a variable index would stall the copies that follow.
+// The registers with v at a.
 fn with(registers: [u32; 8], a: usize, v: u32) -> [u32; 8]
+    requires { ⌜ a < 8 ⌝ }
     ensures { λ r. ⌜ r ≡ set registers a v ⌝ }
 {
-    let r0 = chosen(a, 0, v, registers[0]);
-    let r1 = chosen(a, 1, v, registers[1]);
-    let r2 = chosen(a, 2, v, registers[2]);
-    let r3 = chosen(a, 3, v, registers[3]);
-    let r4 = chosen(a, 4, v, registers[4]);
-    let r5 = chosen(a, 5, v, registers[5]);
-    let r6 = chosen(a, 6, v, registers[6]);
-    let r7 = chosen(a, 7, v, registers[7]);
-    [r0, r1, r2, r3, r4, r5, r6, r7]
+    let mut next = registers;
+    next[a] = v;
+    next
+}
+
+// v or the other, without a branch.
+fn choose(yes: bool, v: u32, other: u32) -> u32
+    ensures { λ r. ⌜ r ≡ pick yes v other ⌝ }
+{
+    if yes {
+        return v;
+    }
+    other
 }
 
 // x moved by c, which is read as a signed 16-bit number.
@@ -62,57 +58,130 @@ fn address(base: u32, c: u32) -> usize
     word::sum(base, c) as usize
 }
 
-// What an instruction does, known before memory is looked at: a register and the word that goes there; a register and the address
-// whose word goes there; an address and the word that goes there. Or the number of the question that had a no.
-pub enum Effect {
-    Put(usize, u32),
-    Read(usize, usize),
-    Write(usize, u32),
-    Refused(u32),
+// What an effect does with memory: nothing, read a word, or write one.
+pub const NOTHING: u32 = 0;
+
+pub const READ: u32 = 1;
+
+pub const WRITE: u32 = 2;
+
+// What an instruction does, known before memory is looked at: the number of the question that had a no, or 0; the access to memory and
+// its address; the one register that can change; and the word that goes there or into memory. Where no register changes, the word
+// is the register's own, so that every way puts a word into register a and no other is copied.
+pub struct Effect {
+    pub number: u32,
+    pub access: u32,
+    pub at: usize,
+    pub a: usize,
+    pub v: u32,
+}
+
+// An effect on register a alone.
+fn put(number: u32, a: usize, v: u32) -> Effect
+    ensures { λ r. ⌜ r ≡ onRegister number a v ⌝ }
+{
+    Effect {
+        number,
+        access: NOTHING,
+        at: 0,
+        a,
+        v,
+    }
+}
+
+// A load's or store's effect.
+fn reach(access: u32, at: usize, a: usize, v: u32) -> Effect
+    ensures { λ r. ⌜ r ≡ onMemory access at a v ⌝ }
+{
+    Effect {
+        number: 0,
+        access,
+        at,
+        a,
+        v,
+    }
+}
+
+// What opcodes 1 to 5 and 7 put into their register: all are computed and one is chosen, since a branch that is foreseen wrongly costs more.
+fn value(op: u32, x: u32, y: u32, c: u32) -> u32
+    requires { ⌜ c < 65536 ⌝ }
+    ensures { λ r. ⌜ r ≡ valueOf op x y c ⌝ }
+{
+    let sum = choose(
+        op == instruction::ADD,
+        word::sum(x, y),
+        word::difference(x, y),
+    );
+    let pair = choose(op == instruction::MULTIPLY, word::product(x, y), sum);
+    let more = choose(op == instruction::MOVE, moved_by(x, c), pair);
+    let plain = choose(op == instruction::CONSTANT, c, x);
+    choose(op < instruction::ADD, plain, more)
 }
 
 // The effect of an instruction that is not its block's last. It is not asked Q9, so it is of no account which block it is in.
-pub fn effect_of(registers: &[u32; 8], w: u32) -> Effect
-    ensures { λ r. ⌜ ((P : Routine) (b j f n : ℕ) (m : List ℕ) → (suc j ≡ P .long b → ⊥)
+pub fn effect_of(rows: &[u32; 13], registers: &[u32; 8], w: u32) -> Effect
+    requires { ⌜ now rows ≡ opcodeRows ⌝ }
+    ensures does { λ r. ⌜ ((P : Routine) (b j f n : ℕ) (m : List ℕ) → (suc j ≡ P .long b → ⊥)
         → does r (at b j (now (registers .entry)) m f n) ≡ perform P (decode w) (at b j (now (registers .entry)) m f n)) ⌝ }
+    ensures place { λ r. ⌜ r .a < 8 ⌝ }
 {
-    let no = instruction::form(w, false, 0, 0);
+    // A place of the registers also where Q7 has a no.
+    let a = word::a(w) % REGISTERS;
+    let own = registers[a];
+    let no = instruction::form(rows, w, false, 0, 0);
     if no != 0 {
-        return Effect::Refused(no);
+        return put(no, a, own);
     }
     let op = word::opcode(w);
-    let a = word::a(w);
     let c = word::c(w);
     let x = registers[word::b(w)];
     // The register that c numbers, for the opcodes whose c is one: read before they are told apart, which takes no branch.
-    let y = registers[(c % REGISTERS) as usize];
-    if op == instruction::CONSTANT {
-        return Effect::Put(a, c);
+    let y = registers[(c as usize) % REGISTERS];
+    if op == instruction::LOAD {
+        return reach(READ, address(x, c), a, own);
     }
-    if op == instruction::COPY {
-        return Effect::Put(a, x);
-    }
-    if op == instruction::ADD {
-        return Effect::Put(a, word::sum(x, y));
-    }
-    if op == instruction::SUBTRACT {
-        return Effect::Put(a, word::difference(x, y));
-    }
-    if op == instruction::MULTIPLY {
-        return Effect::Put(a, word::product(x, y));
+    if op == instruction::STORE {
+        return reach(WRITE, address(x, c), a, own);
     }
     if op == instruction::DIVIDE {
-        return Effect::Put(a, word::quotient(x, c));
+        return put(0, a, word::quotient(x, c));
     }
-    if op == instruction::MOVE {
-        return Effect::Put(a, moved_by(x, c));
+    put(0, a, value(op, x, y, c))
+}
+
+// The number of the question that had a no, 0 where none had, and the word that goes into register a.
+struct Handed {
+    number: u32,
+    v: u32,
+}
+
+fn handed_on(number: u32, v: u32) -> Handed
+    ensures { λ r. ⌜ r ≡ record { number = number; v = v } ⌝ }
+{
+    Handed { number, v }
+}
+
+// Q18, and memory read or written.
+fn reached(memory: &mut [u32], e: Effect) -> Handed
+    ensures { λ r. ⌜ ((b j f n : ℕ) (l : List ℕ)
+        → stepOf (r .number) (at b j (set l (e .a) (r .v)) (now (memory .exit)) f n) (past (at b j (set l (e .a) (r .v)) (now (memory .exit)) f n))
+        ≡ does e (at b j l (now (memory .entry)) f n)) ⌝ }
+{
+    let at = e.at;
+    if e.access == READ {
+        if memory.len() <= at {
+            return handed_on(OUT_OF_MEMORY, e.v);
+        }
+        return handed_on(0, memory[at]);
     }
-    if op == instruction::LOAD {
-        return Effect::Read(a, address(x, c));
+    if e.access == WRITE {
+        if memory.len() <= at {
+            return handed_on(OUT_OF_MEMORY, e.v);
+        }
+        memory[at] = e.v;
+        return handed_on(0, e.v);
     }
-    // A store: no other opcode is left.
-    let v = registers[a];
-    Effect::Write(address(x, c), v)
+    handed_on(e.number, e.v)
 }
 
 // The number of the question that had a no, 0 where the instruction was carried out, and the registers after it.
@@ -121,40 +190,36 @@ pub struct Stepped {
     pub registers: [u32; 8],
 }
 
-// An instruction's answer.
-fn outcome(number: u32, registers: [u32; 8]) -> Stepped
-    ensures { λ r. ⌜ r ≡ record { number = number; registers = registers } ⌝ }
-{
-    Stepped { number, registers }
-}
-
-// An effect carried out: Q18, then registers and memory.
+// An effect carried out: Q18, then registers and memory. Only register a can differ from what was handed in.
 pub fn carry_out(registers: [u32; 8], memory: &mut [u32], e: Effect) -> Stepped
-    ensures { λ r. ⌜ ((b j f n : ℕ)
+    requires { ⌜ e .a < 8 ⌝ }
+    ensures does { λ r. ⌜ ((b j f n : ℕ)
         → stepOf (r .number) (at b j (r .registers) (now (memory .exit)) f n) (past (at b j (r .registers) (now (memory .exit)) f n))
         ≡ does e (at b j registers (now (memory .entry)) f n)) ⌝ }
+    ensures others { λ r. ⌜ set registers (e .a) (reg (r .registers) (e .a)) ≡ r .registers ⌝ }
 {
-    match e {
-        Effect::Put(a, v) => {
-            return outcome(0, with(registers, a, v));
-        }
-        Effect::Read(a, x) => {
-            if memory.len() <= x {
-                return outcome(OUT_OF_MEMORY, registers);
-            }
-            return outcome(0, with(registers, a, memory[x]));
-        }
-        Effect::Write(x, y) => {
-            if memory.len() <= x {
-                return outcome(OUT_OF_MEMORY, registers);
-            }
-            memory[x] = y;
-            return outcome(0, registers);
-        }
-        Effect::Refused(n) => {
-            return outcome(n, registers);
-        }
+    let d = reached(memory, e);
+    let next = with(registers, e.a, d.v);
+    Stepped {
+        number: d.number,
+        registers: next,
     }
+}
+
+// One instruction, over lent registers: of the array that it hands back, the register that can differ is taken over. A loop around
+// these lines would copy all eight for each instruction, so they are a function of their own.
+pub fn advance(rows: &[u32; 13], registers: &mut [u32; 8], memory: &mut [u32], w: u32) -> u32
+    requires { ⌜ now rows ≡ opcodeRows ⌝ }
+    ensures { λ r. ⌜ ((P : Routine) (b j f n : ℕ) → (suc j ≡ P .long b → ⊥)
+        → stepOf r (at b j (now (registers .exit)) (now (memory .exit)) f n) (past (at b j (now (registers .exit)) (now (memory .exit)) f n))
+        ≡ perform P (decode w) (at b j (now (registers .entry)) (now (memory .entry)) f n)) ⌝ }
+{
+    let e = effect_of(rows, registers, w);
+    let s = carry_out(*registers, memory, e);
+    let a = e.a;
+    let next = s.registers;
+    registers[a] = next[a];
+    s.number
 }
 
 // Comparisons are unsigned.
@@ -165,33 +230,34 @@ fn less(x: u32, y: u32) -> bool
 }
 
 // Which exit the block's last instruction takes. It leaves registers and memory as they are.
-pub fn leave(registers: &[u32; 8], w: u32, b: u32, count: u32) -> Exit
-    requires { ⌜ b < 4294967295 ⌝ }
+pub fn leave(rows: &[u32; 13], registers: &[u32; 8], w: u32, b: u32, count: u32) -> Exit
+    requires { ⌜ (now rows ≡ opcodeRows) × (b < 4294967295) ⌝ }
     ensures { λ r. ⌜ ((P : Routine) (j f n : ℕ) (m : List ℕ) → P .count ≡ count → suc j ≡ P .long b
         → exitOf r (at b j (now (registers .entry)) m f n) ≡ perform P (decode w) (at b j (now (registers .entry)) m f n)) ⌝ }
 {
-    let no = instruction::form(w, true, b, count);
+    let no = instruction::form(rows, w, true, b, count);
     if no != 0 {
         return Exit::No(no);
     }
     let op = word::opcode(w);
-    if op == instruction::HALT {
-        return Exit::Halted;
-    }
     let c = word::c(w);
     if op == instruction::JUMP {
         return Exit::To(c);
     }
+    if op == instruction::HALT {
+        return Exit::Halted;
+    }
     let x = registers[word::a(w)];
+    let untaken = b + 1;
     if op == instruction::IF_EQUAL {
         if x == c / 256 {
             return Exit::To(c % 256);
         }
-        return Exit::To(b + 1);
+        return Exit::To(untaken);
     }
     // If less: no other opcode is left.
     if less(x, registers[word::b(w)]) {
         return Exit::To(c);
     }
-    Exit::To(b + 1)
+    Exit::To(untaken)
 }

@@ -15,6 +15,7 @@ ghost use Rattle.model.specs.Table.{tablesOf, headOf};
 ghost use Rattle.model.specs.Machine.{decode};
 ghost use Rattle.model.specs.Reading.{laidAt, upFrom, steady, movedWord, look, rowFits};
 ghost use Rattle.model.specs.Check.{readPlain};
+ghost use Rattle.instruction.specs.Rows.{opcodeRows};
 ghost use Rattle.fits.specs.Numbers.{valuesOf};
 ghost use Rattle.straight.specs.State.{reading, numbered, plainOf, loadAsk, storeAsk, touched, earlyAsk};
 use model::Reference;
@@ -458,8 +459,9 @@ fn step(
     s
 }
 
-// Q7 to Q12 of an instruction of block b before its end, at birthplace g.
+// Q7 to Q12 of an instruction before its block's end, at birthplace g. It is not asked Q9, so it is of no account which block it is in.
 pub fn early(
+    rows: &[u32; 13],
     types: &[u32],
     tags: &[u32],
     registers: &mut [u8; 8],
@@ -470,11 +472,9 @@ pub fn early(
     fields: &mut [u8; 8],
     s: Progress,
     word: u32,
-    b: u32,
-    count: u32,
     g: usize,
 ) -> Progress
-    requires { ⌜ (g < 32) × (b < 4294967295) × (s .number ≡ 0) × (length (now fields) ≡ 8)
+    requires { ⌜ (now rows ≡ opcodeRows) × (g < 32) × (s .number ≡ 0) × (length (now fields) ≡ 8)
         × (length (now types) % 9 ≡ 0) × ((t : ℕ) → headOf (now types) t ≤ 8) ⌝ }
     ensures { λ r. ⌜ ((place : Question → Refusal)
         → numbered place (r .number) (reading (now (registers .exit)) (now (words .exit)) (now (frames .exit)) (now (constants .exit)) (now (views .exit)) (now (fields .exit)) (r .since) (r .base))
@@ -482,7 +482,7 @@ pub fn early(
         (reading (now (registers .entry)) (now (words .entry)) (now (frames .entry)) (now (constants .entry)) (now (views .entry)) (now (fields .entry)) (s .since) (s .base)))
         × (r .number ≤ 15) ⌝ }
 {
-    let no = instruction::form(word, false, b, count);
+    let no = instruction::form(rows, word, false, 0, 0);
     if no != 0 {
         return refused(no, s);
     }

@@ -7,6 +7,7 @@ ghost use lib.ListN.{length, getD};
 ghost use Rattle.model.specs.Question.{verdictOf};
 ghost use Rattle.model.specs.Table.{rows, tablesOf, routineOf, headOf, startOf};
 ghost use Rattle.model.specs.Check.{blockAsk, judge, check};
+ghost use Rattle.instruction.specs.Rows.{opcodeRows};
 use model::Verdict;
 use straight::NO_BASE;
 use straight::Progress;
@@ -16,6 +17,7 @@ use table::answer;
 
 // Q7 to Q15 of block b, whose part of the code starts at first.
 fn block(
+    rows: &[u32; 13],
     types: &[u32],
     tags: &[u32],
     blocks: &[u32],
@@ -23,7 +25,7 @@ fn block(
     b: usize,
     first: usize,
 ) -> Verdict
-    requires { ⌜ (b * 9 + 9 ≤ length (now blocks)) × (length (now blocks) ≤ 2304) × (first ≡ startOf (now blocks) b)
+    requires { ⌜ (now rows ≡ opcodeRows) × (b * 9 + 9 ≤ length (now blocks)) × (length (now blocks) ≤ 2304) × (first ≡ startOf (now blocks) b)
         × (1 ≤ headOf (now blocks) b) × (headOf (now blocks) b ≤ 32) × (first + headOf (now blocks) b ≤ length (now code))
         × (length (now code) ≤ 8192) × (length (now types) % 9 ≡ 0) × ((t : ℕ) → headOf (now types) t ≤ 8) ⌝ }
     ensures { λ r. ⌜ r ≡ verdictOf (blockAsk (tablesOf (now (types .entry)) (now (tags .entry))) (routineOf (now (blocks .entry)) (now (code .entry))) b) ⌝ }
@@ -44,10 +46,10 @@ fn block(
     let n = table::head(blocks, b) as usize;
     let end = first + n;
     let part = &code[first..end];
-    let count = (blocks.len() / table::ROW_WORDS) as u32;
     let mut j = 0;
     while j + 1 < n {
         s = straight::early(
+            rows,
             types,
             tags,
             &mut registers,
@@ -58,8 +60,6 @@ fn block(
             &mut fields,
             s,
             part[j],
-            b as u32,
-            count,
             j + 1,
         );
         let no = s.number;
@@ -69,6 +69,7 @@ fn block(
         j += 1;
     }
     let no = branch::last(
+        rows,
         tags,
         blocks,
         &registers,
@@ -92,10 +93,12 @@ fn judge(types: &[u32], tags: &[u32], blocks: &[u32], code: &[u32], starts: &[u3
         × ((b : ℕ) → b ≤ rows (now blocks) → getD (now starts) b 0 ≡ startOf (now blocks) b) ⌝ }
     ensures { λ r. ⌜ r ≡ verdictOf (judge (tablesOf (now (types .entry)) (now (tags .entry))) (routineOf (now (blocks .entry)) (now (code .entry)))) ⌝ }
 {
+    let rows = instruction::opcode_rows();
     let count = blocks.len() / table::ROW_WORDS;
     let mut b = 0;
     while b < count {
-        let v = block(types, tags, blocks, code, b, starts[b] as usize);
+        let first = starts[b] as usize;
+        let v = block(&rows, types, tags, blocks, code, b, first);
         if v.number != 0 {
             return v;
         }

@@ -8,24 +8,33 @@ use mir.Val.{SFits, toZ, ofZ}
 use mir.Facts.{toZ-ofZ, toZ-pos}
 use borrow.Author.Tests.{lt-ltb, le-ltb}
 use Rattle.model.specs.Word.{signed, moved}
+use Rattle.model.proofs.Logic.{byLess}
 
 -- ---- c read as signed
 
-pub signed-low : (c : ℕ) → c < 32768 → toZ w32 c ≡ signed c
-signed-low c h = rw (toZ-pos w32 {n = c} (omega arith), lt-ltb c 32768 h)
+-- c gone round by half of 2^16
+abbrev pub round : ℕ → ℕ
+round c = (c + 32768) % 65536
 
--- c - 65536 is negative
-below-zero : (c : ℕ) → c < 65536 → pos c -ℤ pos 65536 ≡ negsuc (65536 - (c + 1))
-below-zero c h = simp (lt-ltb _ _ h) (ap negsuc (omega arith))
+-- and back by as much
+back : (c : ℕ) → c < 65536 → pos (round c) -ℤ pos 32768 ≡ signed c
+back c h =
+    byLess c 32768
+    (λ l. let e : round c ≡ c + 32768 = omega arith in simp (e, le-ltb (c + 32768) 32768 (omega arith), lt-ltb c 32768 l) (ap pos (omega arith)))
+    (λ l. let e : round c ≡ c - 32768 = omega arith in simp (e, lt-ltb (c - 32768) 32768 (omega arith), le-ltb c 32768 l) (ap negsuc (omega arith)))
 
-lowered : (c : ℕ) → c < 65536 → toZ w32 c -ℤ pos 65536 ≡ negsuc (65536 - (c + 1))
-lowered c h = rw (toZ-pos w32 {n = c} (omega arith)) (below-zero c h)
+rounded : (c : ℕ) → c < 65536 → toZ w32 (round c) -ℤ pos 32768 ≡ signed c
+rounded c h = rw (toZ-pos w32 {n = round c} (omega arith)) (back c h)
 
-pub signed-high-fits : (c : ℕ) → c < 65536 → SFits w32 (toZ w32 c -ℤ pos 65536)
-signed-high-fits c h = rw (lowered c h) (record { sfits = omega arith })
+narrow : (c : ℕ) → c < 65536 → SFits w32 (signed c)
+narrow c h =
+    byLess c 32768 (λ l. rw (lt-ltb c 32768 l) (record { sfits = omega arith })) (λ l. rw (le-ltb c 32768 l) (record { sfits = omega arith }))
 
-pub signed-high : (c : ℕ) → 32768 ≤ c → c < 65536 → toZ w32 (ofZ w32 (toZ w32 c -ℤ pos 65536)) ≡ signed c
-signed-high c k h = toZ-ofZ (signed-high-fits c h) ∙ lowered c h ∙ sym (simp (le-ltb c 32768 k))
+pub signed-fits : (c : ℕ) → c < 65536 → SFits w32 (toZ w32 (round c) -ℤ pos 32768)
+signed-fits c h = rw (rounded c h) (narrow c h)
+
+pub signed-is : (c : ℕ) → c < 65536 → toZ w32 (ofZ w32 (toZ w32 (round c) -ℤ pos 32768)) ≡ signed c
+signed-is c h = toZ-ofZ (signed-fits c h) ∙ rounded c h
 
 -- ---- a word moved by d
 

@@ -38,16 +38,13 @@ pub fn quotient(x: u32, c: u32) -> u32
 
 // ---- the signed offset
 
-// The 16-bit number c read as signed.
+// The 16-bit number c read as signed. Going round by half of 2^16 and back takes no branch.
 pub fn signed(c: u32) -> i32
     requires { ⌜ c < 65536 ⌝ }
     ensures { λ r. ⌜ r ≡ signed c ⌝ }
 {
-    if c < 32768 {
-        c as i32
-    } else {
-        (c as i32) - 65536
-    }
+    let round = (c + 32768) % 65536;
+    (round as i32) - 32768
 }
 
 // x moved by d. Adding 2^32 first makes every move one upwards, so that there is no branch.

@@ -1,4 +1,4 @@
--- `branch::last` meets its contract.
+-- `branch::last` meets its contract: Q7 to Q9, Q13, then the edges.
 use mathlib.Core.Path.{_∙_}
 use native.Mathlib.Omega.{arith}
 use borrow.Author.Needs.{needs}
@@ -8,6 +8,9 @@ use Rattle.straight.proofs.Forms.{form-bound}
 use Rattle.branch.proofs.Ends.{decode-end, last-form, last-targets, last-no, targets-of, last-open, last-on}
 use Rattle.branch.proofs.last.Statement.{statement}
 use Rattle.branch.proofs.last.Tie as tie
+
+abbrev start : tie.Else1 → tie.Start
+start c = c .before .before .before .before
 
 cast-count : tie.Need-cast-count
 cast-count c = search needs
@@ -19,34 +22,35 @@ form-requires : tie.Need-form-requires
 form-requires c κs = search needs
 
 returns : tie.Need-returns
-returns c = (
-  λ place types code views fields since. last-no _ _ _ _ _ (c .if1 .taken) _ _ _ (routine-count _ code)
-      (c .before .form .ensures),
-  form-bound _ _ _ _ _ (c .before .form .ensures),
-)
+returns c =
+    let f = c .before .form in
+    (λ place types code views fields since. last-no _ _ _ _ _ (c .if1 .taken) _ _ _ (routine-count _ code) (f .ensures), form-bound _ _ _ _ _ (f .ensures))
 
 returns-2 : tie.Need-returns-2
 returns-2 c =
-    let f = last-form _ _ _ _ (c .before .before .form .ensures) (c .before .if1 .left) in
-    let t = last-targets _ _ _ _ (c .before .before .form .ensures) (c .before .if1 .left) in (
-      λ place types code views fields since. last-open _ _ _ _ _ _ (decode-end _ (f .0) (f .1)) (targets-of _ code _ _ t)
-          (omega arith),
+    let e = c .before in
+    let f = last-form _ _ _ _ (e .before .form .ensures) (e .if1 .left) in
+    let t = last-targets _ _ _ _ (e .before .form .ensures) (e .if1 .left) in (
+      λ place types code views fields since. last-open _ _ _ _ _ _ (decode-end _ (f .0) (f .1)) (targets-of _ code _ _ t) (omega arith),
       omega arith,
     )
 
 edges-requires : tie.Need-edges-requires
 edges-requires c κs =
-    let f = last-form _ _ _ _ (c .before .before .before .form .ensures) (c .before .before .if1 .left) in
-    let t = last-targets _ _ _ _ (c .before .before .before .form .ensures) (c .before .before .if1 .left) in
+    let e = c .before .before in
+    let f = last-form _ _ _ _ (e .before .form .ensures) (e .if1 .left) in
+    let t = last-targets _ _ _ _ (e .before .form .ensures) (e .if1 .left) in
     let r = registers _ (f .0) in
-    (r .0, r .1, known _ (f .0), f .1, c .before .before .before .before .before .before .pre .0, t)
+    (r .0, r .1, known _ (f .0), f .1, start e .pre .1, t)
 
 returns-3 : tie.Need-returns-3
 returns-3 c =
-    let f = last-form _ _ _ _ (c .before .before .before .before .form .ensures) (c .before .before .before .if1 .left) in
-    let t = last-targets _ _ _ _ (c .before .before .before .before .form .ensures) (c .before .before .before .if1 .left) in (
-      λ place types code views fields since. c .edges .ensures .0 place types code views fields since _ ∙ last-on _ _ _ _ _ _ (decode-end _
-          (f .0) (f .1)) (targets-of _ code _ _ t) (omega arith),
+    let e = c .before .before .before in
+    let f = last-form _ _ _ _ (e .before .form .ensures) (e .if1 .left) in
+    let t = last-targets _ _ _ _ (e .before .form .ensures) (e .if1 .left) in (
+      λ place types code views fields since.
+          c .edges .ensures .0 place types code views fields since _
+          ∙ last-on _ _ _ _ _ _ (decode-end _ (f .0) (f .1)) (targets-of _ code _ _ t) (omega arith),
       c .edges .ensures .1,
     )
 

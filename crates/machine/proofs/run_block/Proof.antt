@@ -1,70 +1,92 @@
--- `machine::run_block` meets its contract: the instructions before the last, then Q22 and the last. The invariant: the steps from
--- here come to what all before the last come to.
+-- `machine::run_block` meets its contract. The invariant: the steps that are left come to what the whole block comes to.
 use mathlib.Core.Path.{_≡_, refl, sym, _∙_}
-use Prim.Native.Nat.{ℕ, _+_, _-_, _≤_}
-use native.Mathlib.Nat.{add-zero, sub-zero}
+use mathlib.Core.List.{List}
+use Prim.Native.Nat.{ℕ, _+_, _-_, _<_}
+use native.Mathlib.Nat.{add-assoc, add-zero, sub-zero}
 use native.Mathlib.Omega.{arith}
+use denote.Ref.{now}
 use lib.ListN.{length}
 use Rattle.model.specs.Table.{Routine}
 use Rattle.model.specs.Machine.{steps}
 use Rattle.step.specs.Answer.{at}
 use Rattle.machine.specs.Run.{Covers}
-use Rattle.machine.proofs.Blocks.{body-past, body-on, body-stops, body-end, block-stops, block-past, block-ends}
+use Rattle.machine.proofs.Blocks.{no-code, ends, goes-on, stops}
 use borrow.Author.Needs.{needs}
 use Rattle.machine.proofs.run_block.Statement.{statement}
 use Rattle.machine.proofs.run_block.Tie as tie
 
 abbrev Inv-loop : tie.InvT-loop
-Inv-loop part room registers₀ memory₀ b count last i₀ registers memory i =
-    ((P : Routine) (f n : ℕ) → Covers P b part room → steps P (length part - 1) (at b 0 registers₀ memory₀ f n) ≡ steps P (length part - 1 - i) (at b i registers memory f (n + i)))
-    × (i ≤ length part - 1)
+Inv-loop rows part room registers₀ memory₀ b count last i₀ registers memory i =
+    ((P : Routine) (f n : ℕ) → Covers P b part room
+    → steps P (P .long b) (at b 0 registers₀ memory₀ f n) ≡ steps P (length part - i) (at b i registers memory f (n + i)))
+    × (i < length part)
     × (length memory ≡ length memory₀)
 
 abbrev μ-loop : tie.MeasureT-loop
-μ-loop part room registers₀ memory₀ b count last i₀ registers memory i = length part - i
+μ-loop rows part room registers₀ memory₀ b count last i₀ registers memory i = length part - i
+
+-- ---- places: a round of the loop, what it was lent, and where it is past an instruction
+
+abbrev start : tie.At-loop Inv-loop μ-loop → tie.Start Inv-loop μ-loop
+start c = c .before .before .before
+
+abbrev part : tie.At-loop Inv-loop μ-loop → List ℕ
+part c = now (start c .args .part)
+
+abbrev round : tie.After-advance Inv-loop μ-loop → tie.At-loop Inv-loop μ-loop
+round c = c .before .before .before .before .before .before
+
+-- ---- the needs
 
 sub-last : tie.Need-sub-last Inv-loop μ-loop
 sub-last c = omega arith
 
 loop-holds : tie.Need-loop-holds Inv-loop μ-loop
-loop-holds c = (λ P f n C. rw (sub-zero, add-zero), omega arith, refl)
+loop-holds c = (λ P f n C. rw (C .long, sub-zero, add-zero), omega arith, refl)
 
 same-length : tie.Need-same-length Inv-loop μ-loop
-same-length c = c .before .before .loop .inv .2
+same-length c = c .before .loop .inv .2
 
 returns : tie.Need-returns Inv-loop μ-loop
 returns c =
-    let l = c .before .before .loop in (
-      λ P f n ec C. block-stops P _ _ _ f C (omega arith) _ 22 (l .i) (n + l .i) _ _ (body-past P _ _ _ f C (l .i) (n + l .i) _ _ (omega arith) (omega arith) ∙ sym (l .inv .0 P f n C)) (λ z. omega arith),
-      omega arith,
-    )
+    let l = c .before .loop in
+    (λ P f n ec C. no-code P _ _ _ f C (l .i) (n + l .i) _ _ (l .inv .1) (omega arith) ∙ sym (l .inv .0 P f n C), l .inv .1)
 
-mul-effect-of : tie.Need-mul-effect-of Inv-loop μ-loop
-mul-effect-of c = omega arith
+mul-w : tie.Need-mul-w Inv-loop μ-loop
+mul-w c = omega arith
 
-shared-slice-read-effect-of : tie.Need-shared-slice-read-effect-of Inv-loop μ-loop
-shared-slice-read-effect-of c = omega arith
+shared-slice-read-w : tie.Need-shared-slice-read-w Inv-loop μ-loop
+shared-slice-read-w c = omega arith
 
-effect-of-requires : tie.Need-effect-of-requires Inv-loop μ-loop
-effect-of-requires c κs = tt
-
-carry-out-requires : tie.Need-carry-out-requires Inv-loop μ-loop
-carry-out-requires c κs = tt
+leave-requires : tie.Need-leave-requires Inv-loop μ-loop
+leave-requires c κs = search needs
 
 same-length-2 : tie.Need-same-length-2 Inv-loop μ-loop
-same-length-2 c = c .before .before .before .before .carry-out .kept .1 .0 ∙ c .before .before .before .before .before .before .before .before .before .before .before .before .loop .inv .2
+same-length-2 c = c .before .before .before .before .before .loop .inv .2
 
 returns-2 : tie.Need-returns-2 Inv-loop μ-loop
 returns-2 c =
-    let q = c .before .before .before .before .carry-out in
-    let e = c .before .before .before .before .before .before .before .effect-of in
-    let l = c .before .before .before .before .before .before .before .before .before .before .before .before .loop in (
+    let l = c .before .before .before .before .before .loop in (
       λ P f n ec C.
-          block-stops P _ _ _ f C (omega arith) _ _ (l .i) (n + l .i) _ _
-          (body-stops P _ _ _ f C n _ _ _ _ _ _ (omega arith) (omega arith)
-          (q .ensures _ (l .i) f (n + l .i) ∙ e .ensures P _ (l .i) f (n + l .i) _ (λ z. omega (arith, C .long))) (c .if2 .taken) ∙ sym (l .inv .0 P f n C))
-          (c .if2 .taken),
-      omega arith,
+          ends P _ _ _ f C (l .i) (n + l .i) _ _ (omega arith) (omega arith) _
+          (c .leave .ensures P (l .i) f (n + l .i) _ ec (omega (arith, C .long))) ∙ sym (l .inv .0 P f n C),
+      l .inv .1,
+    )
+
+advance-requires : tie.Need-advance-requires Inv-loop μ-loop
+advance-requires c κs = search needs
+
+same-length-3 : tie.Need-same-length-3 Inv-loop μ-loop
+same-length-3 c = let k = c .before .before .before in k .advance .kept .1 .1 .0 ∙ round k .loop .inv .2
+
+returns-3 : tie.Need-returns-3 Inv-loop μ-loop
+returns-3 c =
+    let k = c .before .before .before in
+    let l = round k .loop in (
+      λ P f n ec C.
+          stops P _ _ _ f C (l .i) (n + l .i) _ _ _ _ _ (l .inv .1) (omega arith)
+          (k .advance .ensures P _ (l .i) f (n + l .i) (λ z. omega (arith, C .long))) (c .if3 .taken) ∙ sym (l .inv .0 P f n C),
+      l .inv .1,
     )
 
 add-i : tie.Need-add-i Inv-loop μ-loop
@@ -75,45 +97,13 @@ loop-less c = omega arith
 
 loop-again : tie.Need-loop-again Inv-loop μ-loop
 loop-again c =
-    let q = c .before .before .before .before .carry-out in
-    let e = c .before .before .before .before .before .before .before .effect-of in
-    let l = c .before .before .before .before .before .before .before .before .before .before .before .before .loop in (
+    let k = c .before .before .before in
+    let l = round k .loop in (
       λ P f n C.
-          l .inv .0 P f n C ∙ body-on P _ _ _ f C n _ _ _ _ _ _ (omega arith) (omega arith)
-          (q .ensures _ (l .i) f (n + l .i) ∙ e .ensures P _ (l .i) f (n + l .i) _ (λ z. omega (arith, C .long))) (c .if2 .left),
+          l .inv .0 P f n C ∙ goes-on P _ _ _ f C (l .i) (n + l .i) _ _ _ _ _ (l .inv .1) (omega arith)
+          (k .advance .ensures P _ (l .i) f (n + l .i) (λ z. omega (arith, C .long))) (c .if3 .left) ∙ rw (add-assoc n (l .i) 1),
       omega arith,
-      q .kept .1 .0 ∙ l .inv .2,
-    )
-
-same-length-3 : tie.Need-same-length-3 Inv-loop μ-loop
-same-length-3 c = c .before .before .loop .inv .2
-
-returns-3 : tie.Need-returns-3 Inv-loop μ-loop
-returns-3 c =
-    let l = c .before .before .loop in (
-      λ P f n ec C. block-past P _ _ _ f C (omega arith) _ 0 (l .i) (n + l .i) _ _ (body-end P _ _ _ f C (l .i) (n + l .i) _ _ (omega arith) ∙ sym (l .inv .0 P f n C)) refl (omega arith),
-      omega arith,
-    )
-
-mul-leave : tie.Need-mul-leave Inv-loop μ-loop
-mul-leave c = omega arith
-
-shared-slice-read-leave : tie.Need-shared-slice-read-leave Inv-loop μ-loop
-shared-slice-read-leave c = omega arith
-
-leave-requires : tie.Need-leave-requires Inv-loop μ-loop
-leave-requires c κs = search needs
-
-same-length-4 : tie.Need-same-length-4 Inv-loop μ-loop
-same-length-4 c = c .before .before .before .before .before .loop .inv .2
-
-returns-4 : tie.Need-returns-4 Inv-loop μ-loop
-returns-4 c =
-    let l = c .before .before .before .before .before .loop in (
-      λ P f n ec C.
-          block-ends P _ _ _ f C (omega arith) _ 0 (l .i) (n + l .i) _ _ (body-end P _ _ _ f C (l .i) (n + l .i) _ _ (omega arith) ∙ sym (l .inv .0 P f n C)) refl (omega arith) _
-          (c .leave .ensures P (l .i) f (n + l .i) _ ec (omega (arith, C .long))),
-      omega arith,
+      k .advance .kept .1 .1 .0 ∙ l .inv .2,
     )
 
 pub run-block-spec : {M : Type 1} → statement M
@@ -126,19 +116,14 @@ run-block-spec =
     loop-holds
     same-length
     returns
-    mul-effect-of
-    shared-slice-read-effect-of
-    effect-of-requires
-    carry-out-requires
+    mul-w
+    shared-slice-read-w
+    leave-requires
     same-length-2
     returns-2
-    add-i
-    loop-less
-    loop-again
+    advance-requires
     same-length-3
     returns-3
-    mul-leave
-    shared-slice-read-leave
-    leave-requires
-    same-length-4
-    returns-4)
+    add-i
+    loop-less
+    loop-again)

@@ -7,7 +7,9 @@ use native.Mathlib.Omega.{arith}
 use denote.Ref.{now}
 use lib.ListN.{length, getD, take, drop}
 use Rattle.model.specs.Table.{Routine, routineOf, startOf, headOf, rows}
-use Rattle.model.specs.Machine.{steps, Run, returned}
+use Rattle.model.specs.declared.RunAnswer.{RunAnswer}
+use Rattle.model.specs.Machine.{State, steps, Run, returned}
+use Rattle.instruction.specs.Rows.{opcodeRows}
 use Rattle.table.proofs.Laws.{start-more, routine-count, routine-long, routine-start}
 use Rattle.step.specs.Answer.{at, exitOf}
 use Rattle.machine.specs.Run.{Covers, ranOf}
@@ -17,25 +19,29 @@ use Rattle.machine.proofs.run_blocks.Statement.{statement}
 use Rattle.machine.proofs.run_blocks.Tie as tie
 
 abbrev Inv-loop : tie.InvT-loop
-Inv-loop blocks code starts memory₀ block budget count b₀ current₀ finished₀ memory b current finished =
+Inv-loop blocks code starts memory₀ block budget table count b₀ current₀ finished₀ memory b current finished =
     (uncounted (ranOf blocks code memory₀ block current₀ budget) ≡ rest (routineOf blocks code) (budget - finished) b current memory finished)
     × (finished ≤ budget)
     × (b < rows blocks)
     × (length memory ≡ length memory₀)
+    × (table ≡ opcodeRows)
 
 abbrev μ-loop : tie.MeasureT-loop
-μ-loop blocks code starts memory₀ block budget count b₀ current₀ finished₀ memory b current finished = budget - finished
+μ-loop blocks code starts memory₀ block budget table count b₀ current₀ finished₀ memory b current finished = budget - finished
 
 -- ---- in the loop: what is lent, the block and its code
 
+abbrev start : tie.At-loop Inv-loop μ-loop → tie.Start Inv-loop μ-loop
+start c = c .before .before .before .before .before
+
 abbrev blocks : tie.In-loop Inv-loop μ-loop → List ℕ
-blocks c = now (c .before .before .before .before .before .args .blocks)
+blocks c = now (start (c .before) .args .blocks)
 
 abbrev code : tie.In-loop Inv-loop μ-loop → List ℕ
-code c = now (c .before .before .before .before .before .args .code)
+code c = now (start (c .before) .args .code)
 
 abbrev starts : tie.In-loop Inv-loop μ-loop → List ℕ
-starts c = now (c .before .before .before .before .before .args .starts)
+starts c = now (start (c .before) .args .starts)
 
 abbrev routine : tie.In-loop Inv-loop μ-loop → Routine
 routine c = routineOf (blocks c) (code c)
@@ -43,18 +49,21 @@ routine c = routineOf (blocks c) (code c)
 abbrev block : tie.In-loop Inv-loop μ-loop → ℕ
 block c = c .before .loop .b
 
+abbrev first : tie.In-loop Inv-loop μ-loop → ℕ
+first c = getD (starts c) (block c) 0
+
 abbrev part : tie.In-loop Inv-loop μ-loop → List ℕ
-part c = take (getD (starts c) (block c + 1) 0 - getD (starts c) (block c) 0) (drop (getD (starts c) (block c) 0) (code c))
+part c = take (getD (starts c) (block c + 1) 0 - first c) (drop (first c) (code c))
 
 starts-at : (c : tie.In-loop Inv-loop μ-loop) (k : ℕ) → k ≤ rows (blocks c) → getD (starts c) k 0 ≡ startOf (blocks c) k
-starts-at c = c .before .before .before .before .before .pre .4
+starts-at c = start (c .before) .pre .4
 
-covered : (c : tie.In-loop Inv-loop μ-loop) → Covers (routine c) (block c) (part c) (length (code c) - getD (starts c) (block c) 0)
-covered c = covers _ _ (c .before .before .before .before .before .pre .0) _ _ _ (omega arith) (starts-at c (block c) (omega arith)) (starts-at c (block c + 1) (omega arith))
+covered : (c : tie.In-loop Inv-loop μ-loop) → Covers (routine c) (block c) (part c) (length (code c) - first c)
+covered c = covers _ _ (start (c .before) .pre .0) _ _ _ (omega arith) (starts-at c (block c) (omega arith)) (starts-at c (block c + 1) (omega arith))
 
 -- where the block starts and ends, and how long it is
 record Placed (c : tie.In-loop Inv-loop μ-loop) : Type 0 where
-  first : getD (starts c) (block c) 0 ≡ startOf (blocks c) (block c)
+  starts-there : first c ≡ startOf (blocks c) (block c)
   past : getD (starts c) (block c + 1) 0 ≡ startOf (blocks c) (block c) + headOf (blocks c) (block c)
   least : 1 ≤ headOf (blocks c) (block c)
   inside : startOf (blocks c) (block c) + headOf (blocks c) (block c) ≤ length (code c)
@@ -62,9 +71,9 @@ record Placed (c : tie.In-loop Inv-loop μ-loop) : Type 0 where
 
 placed : (c : tie.In-loop Inv-loop μ-loop) → Placed c
 placed c =
-    let (l, k) = bounds (blocks c) (code c) (c .before .before .before .before .before .pre .0) (block c) (omega arith) in
+    let (l, k) = bounds (blocks c) (code c) (start (c .before) .pre .0) (block c) (omega arith) in
     record {
-      first = starts-at c (block c) (omega arith);
+      starts-there = starts-at c (block c) (omega arith);
       past = starts-at c (block c + 1) (omega arith) ∙ start-more (blocks c) (block c);
       least = l;
       inside = k;
@@ -74,21 +83,49 @@ placed c =
 -- ---- after the block
 
 abbrev here : tie.After-run-block Inv-loop μ-loop → tie.In-loop Inv-loop μ-loop
-here c = c .before .before .before .before .before .before
+here c = c .before .before .before .before .before .before .before
 
--- what the block came to
+-- the states before and after it
+abbrev entered : tie.After-run-block Inv-loop μ-loop → State
+entered c = let l = here c .before .loop in at (l .b) 0 (l .current) (l .memory) (l .finished) 0
+
+abbrev left : tie.After-run-block Inv-loop μ-loop → State
+left c =
+    let e = c .run-block in
+    at (block (here c)) (e .result .at) (e .last .1 .1 .1 .0) (e .last .1 .1 .1 .1 .0) (here c .before .loop .finished) (0 + e .result .at)
+
+-- what it came to
 block-ran : (c : tie.After-run-block Inv-loop μ-loop)
-    → exitOf (c .run-block .result .exit) (at (block (here c)) (c .run-block .result .at) (c .run-block .last .1 .1 .0) (c .run-block .last .1 .1 .1 .0) (here c .before .loop .finished) (0 + c .run-block .result .at))
-    ≡ steps (routine (here c)) (routine (here c) .long (block (here c))) (at (block (here c)) 0 (here c .before .loop .current) (here c .before .loop .memory) (here c .before .loop .finished) 0)
+    → exitOf (c .run-block .result .exit) (left c) ≡ steps (routine (here c)) (routine (here c) .long (block (here c))) (entered c)
 block-ran c = c .run-block .ensures .0 _ _ 0 (routine-count _ _) (covered (here c))
 
+-- memory keeps its length
+kept : (c : tie.After-run-block Inv-loop μ-loop) → length (left c .memory) ≡ length (now (start (here c .before) .args .memory))
+kept c = c .run-block .kept .1 .1 .1 .1 .0 ∙ here c .before .loop .inv .3
+
+-- where the exit is told apart
+abbrev exited : tie.After-struct-known Inv-loop μ-loop → tie.After-run-block Inv-loop μ-loop
+exited c = c .before .before .before
+
+-- the code index of the last instruction
+indexed : (c : tie.After-run-block Inv-loop μ-loop)
+    → first (here c) + c .run-block .result .at ≡ routine (here c) .start (block (here c)) + c .run-block .result .at
+indexed c = omega (arith, placed (here c), routine-start (blocks (here c)) (code (here c)) (block (here c)))
+
+-- a run that is known is the answer
+answered : {a : RunAnswer} {r m : Run} → a ≡ returned r → r ≡ m → (a ≡ returned m) × (r .memory ≡ m .memory)
+answered e w = (e ∙ ap returned w, ap (λ (r : Run). r .memory) w)
+
 -- ---- the needs
+
+opcode-rows-requires : tie.Need-opcode-rows-requires Inv-loop μ-loop
+opcode-rows-requires c κs = tt
 
 cast-count : tie.Need-cast-count Inv-loop μ-loop
 cast-count c = omega arith
 
 loop-holds : tie.Need-loop-holds Inv-loop μ-loop
-loop-holds c = (rw sub-zero, omega arith, omega arith, refl)
+loop-holds c = (rw sub-zero, omega arith, omega arith, refl, c .opcode-rows .ensures)
 
 cast-k : tie.Need-cast-k Inv-loop μ-loop
 cast-k c = omega arith
@@ -118,25 +155,27 @@ sub-room : tie.Need-sub-room Inv-loop μ-loop
 sub-room c = omega (arith, placed (c .before .before))
 
 mul-run-block : tie.Need-mul-run-block Inv-loop μ-loop
-mul-run-block c = omega (arith, placed (c .before .before))
+mul-run-block c = omega (arith, placed (c .before .before .before))
 
 sub-run-block : tie.Need-sub-run-block Inv-loop μ-loop
-sub-run-block c = omega (arith, placed (c .before .before))
+sub-run-block c = omega (arith, placed (c .before .before .before))
 
 part-run-block-start : tie.Need-part-run-block-start Inv-loop μ-loop
-part-run-block-start c = omega (arith, placed (c .before .before))
+part-run-block-start c = omega (arith, placed (c .before .before .before))
 
 part-run-block-end : tie.Need-part-run-block-end Inv-loop μ-loop
-part-run-block-end c = omega (arith, placed (c .before .before))
+part-run-block-end c = omega (arith, placed (c .before .before .before))
 
 run-block-requires : tie.Need-run-block-requires Inv-loop μ-loop
-run-block-requires c κs = (omega (arith, placed (c .before .before .before .before .before)), omega arith)
+run-block-requires c κs =
+    let i = c .before .before .before .before .before .before in
+    (i .before .loop .inv .4, omega (arith, placed i), omega arith)
 
 add-index : tie.Need-add-index Inv-loop μ-loop
-add-index c = omega (arith, placed (c .before .before .before .before .before .before .before .before .before), c .before .before .before .run-block .ensures .1)
+add-index c = let k = exited c in omega (arith, placed (here k), k .run-block .ensures .1, start (here k .before) .pre .2)
 
 cast-index : tie.Need-cast-index Inv-loop μ-loop
-cast-index c = omega (arith, placed (c .before .before .before .before .before .before .before .before .before), c .before .before .before .run-block .ensures .1)
+cast-index c = let k = exited c in omega (arith, placed (here k), k .run-block .ensures .1, start (here k .before) .pre .2)
 
 enum-known-exit : tie.Need-enum-known-exit Inv-loop μ-loop
 enum-known-exit c = search needs
@@ -151,17 +190,15 @@ answer-requires : tie.Need-answer-requires Inv-loop μ-loop
 answer-requires c κs = tt
 
 same-length : tie.Need-same-length Inv-loop μ-loop
-same-length c = c .before .before .before .before .before .before .run-block .kept .1 .1 .1 .0 ∙ c .before .before .before .before .before .before .before .before .before .before .before .before .before .loop .inv .3
+same-length c = kept (exited (c .before .before .before))
 
 returns : tie.Need-returns Inv-loop μ-loop
 returns c =
-    let k = c .before .before .before .before .before .before in
-    let i = here k in
-    let l = i .before .loop in
-    let w =
-    run-halts (routine i) (i .before .before .before .before .before .args .budget) (l .finished) (l .b) (k .run-block .result .at) _ _ _ _ _ (omega arith) _ (block-ran k) (getD (starts i) (l .b) 0 + k .run-block .result .at)
-    (omega (arith, placed i, routine-start (blocks i) (code i) (l .b))) (c .before .enum-told .given .1) ∙ sym (l .inv .0) in
-    (c .answer .ensures ∙ ap returned w, ap (λ (a : Run). a .memory) w)
+    let k = exited (c .before .before .before) in
+    let l = here k .before .loop in
+    answered (c .answer .ensures)
+    (run-halts (routine (here k)) (start (here k .before) .args .budget) (l .finished) (l .b) (k .run-block .result .at) _ _ _ _ _ (omega arith) _
+    (block-ran k) _ (indexed k) (c .before .enum-told .given .1) ∙ sym (l .inv .0))
 
 enum-known-exit-2 : tie.Need-enum-known-exit-2 Inv-loop μ-loop
 enum-known-exit-2 c = search needs
@@ -170,17 +207,15 @@ answer-requires-2 : tie.Need-answer-requires-2 Inv-loop μ-loop
 answer-requires-2 c κs = tt
 
 same-length-2 : tie.Need-same-length-2 Inv-loop μ-loop
-same-length-2 c = c .before .before .before .before .before .before .before .run-block .kept .1 .1 .1 .0 ∙ c .before .before .before .before .before .before .before .before .before .before .before .before .before .before .loop .inv .3
+same-length-2 c = kept (exited (c .before .before .before .before))
 
 returns-2 : tie.Need-returns-2 Inv-loop μ-loop
 returns-2 c =
-    let k = c .before .before .before .before .before .before .before in
-    let i = here k in
-    let l = i .before .loop in
-    let w =
-    run-faults (routine i) (i .before .before .before .before .before .args .budget) (l .finished) (l .b) (k .run-block .result .at) _ _ _ _ _ (omega arith) _ (block-ran k) (getD (starts i) (l .b) 0 + k .run-block .result .at)
-    (omega (arith, placed i, routine-start (blocks i) (code i) (l .b))) _ (c .before .before .exit2 .given .1) ∙ sym (l .inv .0) in
-    (c .answer2 .ensures ∙ ap returned w, ap (λ (a : Run). a .memory) w)
+    let k = exited (c .before .before .before .before) in
+    let l = here k .before .loop in
+    answered (c .answer2 .ensures)
+    (run-faults (routine (here k)) (start (here k .before) .args .budget) (l .finished) (l .b) (k .run-block .result .at) _ _ _ _ _ (omega arith) _
+    (block-ran k) _ (indexed k) _ (c .before .before .exit2 .given .1) ∙ sym (l .inv .0))
 
 add-finished : tie.Need-add-finished Inv-loop μ-loop
 add-finished c = omega arith
@@ -190,13 +225,15 @@ loop-less c = omega arith
 
 loop-again : tie.Need-loop-again Inv-loop μ-loop
 loop-again c =
-    let k = c .before .before .before .before .before .before in
-    let i = here k in
-    let l = i .before .loop in (
-      l .inv .0 ∙ run-on (routine i) (i .before .before .before .before .before .args .budget) (l .finished) (l .b) (k .run-block .result .at) _ _ _ _ _ (omega arith) _ (block-ran k) _ (c .before .exit .given .1),
+    let k = exited (c .before .before .before) in
+    let s = start (here k .before) in
+    let l = here k .before .loop in
+    let told = c .before .exit .given .1 in (
+      l .inv .0 ∙ run-on (routine (here k)) (s .args .budget) (l .finished) (l .b) (k .run-block .result .at) _ _ _ _ _ (omega arith) _ (block-ran k) _ told,
       omega arith,
-      leads-on _ _ (i .before .before .before .before .before .pre .0) _ (l .b) _ _ _ _ _ _ _ _ (omega arith) _ (block-ran k) _ (c .before .exit .given .1),
-      k .run-block .kept .1 .1 .1 .0 ∙ l .inv .3,
+      leads-on _ _ (s .pre .0) _ (l .b) _ _ _ _ _ _ _ _ (omega arith) _ (block-ran k) _ told,
+      kept k,
+      l .inv .4,
     )
 
 cast-answer : tie.Need-cast-answer Inv-loop μ-loop
@@ -216,10 +253,11 @@ same-length-3 c = c .before .before .before .loop .inv .3
 
 returns-3 : tie.Need-returns-3 Inv-loop μ-loop
 returns-3 c =
-    let l = c .before .before .before .loop in
-    let s = c .before .before .before .before .before .before .before in
-    let w = run-pauses (routineOf (now (s .args .blocks)) (now (s .args .code))) (s .args .budget) (l .finished) (l .b) _ _ _ (omega arith) (s .pre .4 (l .b) (omega arith) ∙ sym (routine-start _ (now (s .args .code)) _)) ∙ sym (l .inv .0) in
-    (c .answer3 .ensures ∙ ap returned w, ap (λ (a : Run). a .memory) w)
+    let l = c .before .before .before in
+    let s = start l in
+    let here : getD (now (s .args .starts)) (l .loop .b) 0 ≡ routineOf (now (s .args .blocks)) (now (s .args .code)) .start (l .loop .b) =
+    s .pre .4 (l .loop .b) (omega arith) ∙ sym (routine-start _ (now (s .args .code)) _) in
+    answered (c .answer3 .ensures) (run-pauses _ (s .args .budget) (l .loop .finished) (l .loop .b) _ _ _ (omega arith) here ∙ sym (l .loop .inv .0))
 
 pub run-blocks-spec : {M : Type 1} → statement M
 run-blocks-spec =
@@ -227,6 +265,7 @@ run-blocks-spec =
     (tie.spec
     Inv-loop
     μ-loop
+    opcode-rows-requires
     cast-count
     loop-holds
     cast-k
