@@ -24,7 +24,8 @@ struct Ended {
 }
 
 // A block, whose code is one part of the code table that starts at its first instruction. The code has room words from there on: Q22
-// asks whether an offset is below. The word is read before it is asked whether it is the last, so that reading it waits for nothing.
+// asks whether an offset is below, apart for the last instruction, so that a block of one does not wait for both tests. The word is
+// read before the last is told from the others, so that reading it waits for neither.
 fn run_block(
     rows: &[u32; 13],
     part: &[u32],
@@ -43,16 +44,22 @@ fn run_block(
     let last = part.len() - 1;
     let mut i = 0;
     loop {
+        let w = part[i];
+        if i == last {
+            if room <= last {
+                return Ended {
+                    exit: Exit::No(OUT_OF_CODE),
+                    at: i,
+                };
+            }
+            let exit = step::leave(rows, registers, w, b, count);
+            return Ended { exit, at: i };
+        }
         if room <= i {
             return Ended {
                 exit: Exit::No(OUT_OF_CODE),
                 at: i,
             };
-        }
-        let w = part[i];
-        if i == last {
-            let exit = step::leave(rows, registers, w, b, count);
-            return Ended { exit, at: i };
         }
         let number = step::advance(rows, registers, memory, w);
         if number != 0 {

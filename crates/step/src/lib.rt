@@ -1,7 +1,7 @@
 // One instruction of a run: its questions, then its effect on registers and memory, or the exit that a block's last takes.
 ghost use mathlib.Core.Path.{_≡_};
 ghost use mathlib.Core.List.{List};
-ghost use Prim.Native.Nat.{ℕ, suc, _<_};
+ghost use Prim.Native.Nat.{ℕ, suc, _+_, _<_};
 ghost use lib.Dec.{ltb};
 ghost use lib.ListN.{set};
 ghost use Rattle.model.specs.Question.{pick};
@@ -155,12 +155,6 @@ struct Handed {
     v: u32,
 }
 
-fn handed_on(number: u32, v: u32) -> Handed
-    ensures { λ r. ⌜ r ≡ record { number = number; v = v } ⌝ }
-{
-    Handed { number, v }
-}
-
 // Q18, and memory read or written.
 fn reached(memory: &mut [u32], e: Effect) -> Handed
     ensures { λ r. ⌜ ((b j f n : ℕ) (l : List ℕ)
@@ -170,18 +164,31 @@ fn reached(memory: &mut [u32], e: Effect) -> Handed
     let at = e.at;
     if e.access == READ {
         if memory.len() <= at {
-            return handed_on(OUT_OF_MEMORY, e.v);
+            return Handed {
+                number: OUT_OF_MEMORY,
+                v: e.v,
+            };
         }
-        return handed_on(0, memory[at]);
+        let found = memory[at];
+        return Handed {
+            number: 0,
+            v: found,
+        };
     }
     if e.access == WRITE {
         if memory.len() <= at {
-            return handed_on(OUT_OF_MEMORY, e.v);
+            return Handed {
+                number: OUT_OF_MEMORY,
+                v: e.v,
+            };
         }
         memory[at] = e.v;
-        return handed_on(0, e.v);
+        return Handed { number: 0, v: e.v };
     }
-    handed_on(e.number, e.v)
+    Handed {
+        number: e.number,
+        v: e.v,
+    }
 }
 
 // The number of the question that had a no, 0 where the instruction was carried out, and the registers after it.
@@ -229,6 +236,14 @@ fn less(x: u32, y: u32) -> bool
     x < y
 }
 
+// The block after b, where an untaken branch leads.
+fn following(b: u32) -> u32
+    requires { ⌜ b < 4294967295 ⌝ }
+    ensures { λ r. ⌜ r ≡ b + 1 ⌝ }
+{
+    b + 1
+}
+
 // Which exit the block's last instruction takes. It leaves registers and memory as they are.
 pub fn leave(rows: &[u32; 13], registers: &[u32; 8], w: u32, b: u32, count: u32) -> Exit
     requires { ⌜ (now rows ≡ opcodeRows) × (b < 4294967295) ⌝ }
@@ -248,16 +263,15 @@ pub fn leave(rows: &[u32; 13], registers: &[u32; 8], w: u32, b: u32, count: u32)
         return Exit::Halted;
     }
     let x = registers[word::a(w)];
-    let untaken = b + 1;
     if op == instruction::IF_EQUAL {
         if x == c / 256 {
             return Exit::To(c % 256);
         }
-        return Exit::To(untaken);
+        return Exit::To(following(b));
     }
     // If less: no other opcode is left.
     if less(x, registers[word::b(w)]) {
         return Exit::To(c);
     }
-    Exit::To(untaken)
+    Exit::To(following(b))
 }

@@ -1,10 +1,8 @@
 -- `machine::run_block` meets its contract. The invariant: the steps that are left come to what the whole block comes to.
 use mathlib.Core.Path.{_≡_, refl, sym, _∙_}
-use mathlib.Core.List.{List}
 use Prim.Native.Nat.{ℕ, _+_, _-_, _<_}
 use native.Mathlib.Nat.{add-assoc, add-zero, sub-zero}
 use native.Mathlib.Omega.{arith}
-use denote.Ref.{now}
 use lib.ListN.{length}
 use Rattle.model.specs.Table.{Routine}
 use Rattle.model.specs.Machine.{steps}
@@ -25,13 +23,7 @@ Inv-loop rows part room registers₀ memory₀ b count last i₀ registers memor
 abbrev μ-loop : tie.MeasureT-loop
 μ-loop rows part room registers₀ memory₀ b count last i₀ registers memory i = length part - i
 
--- ---- places: a round of the loop, what it was lent, and where it is past an instruction
-
-abbrev start : tie.At-loop Inv-loop μ-loop → tie.Start Inv-loop μ-loop
-start c = c .before .before .before
-
-abbrev part : tie.At-loop Inv-loop μ-loop → List ℕ
-part c = now (start c .args .part)
+-- ---- a round of the loop, where it is past an instruction
 
 abbrev round : tie.After-advance Inv-loop μ-loop → tie.At-loop Inv-loop μ-loop
 round c = c .before .before .before .before .before .before
@@ -44,19 +36,19 @@ sub-last c = omega arith
 loop-holds : tie.Need-loop-holds Inv-loop μ-loop
 loop-holds c = (λ P f n C. rw (C .long, sub-zero, add-zero), omega arith, refl)
 
-same-length : tie.Need-same-length Inv-loop μ-loop
-same-length c = c .before .loop .inv .2
-
-returns : tie.Need-returns Inv-loop μ-loop
-returns c =
-    let l = c .before .loop in
-    (λ P f n ec C. no-code P _ _ _ f C (l .i) (n + l .i) _ _ (l .inv .1) (omega arith) ∙ sym (l .inv .0 P f n C), l .inv .1)
-
 mul-w : tie.Need-mul-w Inv-loop μ-loop
 mul-w c = omega arith
 
 shared-slice-read-w : tie.Need-shared-slice-read-w Inv-loop μ-loop
 shared-slice-read-w c = omega arith
+
+same-length : tie.Need-same-length Inv-loop μ-loop
+same-length c = c .before .before .before .loop .inv .2
+
+returns : tie.Need-returns Inv-loop μ-loop
+returns c =
+    let l = c .before .before .before .loop in
+    (λ P f n ec C. no-code P _ _ _ f C (l .i) (n + l .i) _ _ (l .inv .1) (omega arith) ∙ sym (l .inv .0 P f n C), l .inv .1)
 
 leave-requires : tie.Need-leave-requires Inv-loop μ-loop
 leave-requires c κs = search needs
@@ -73,19 +65,27 @@ returns-2 c =
       l .inv .1,
     )
 
-advance-requires : tie.Need-advance-requires Inv-loop μ-loop
-advance-requires c κs = search needs
-
 same-length-3 : tie.Need-same-length-3 Inv-loop μ-loop
-same-length-3 c = let k = c .before .before .before in k .advance .kept .1 .1 .0 ∙ round k .loop .inv .2
+same-length-3 c = c .before .before .before .loop .inv .2
 
 returns-3 : tie.Need-returns-3 Inv-loop μ-loop
 returns-3 c =
+    let l = c .before .before .before .loop in
+    (λ P f n ec C. no-code P _ _ _ f C (l .i) (n + l .i) _ _ (l .inv .1) (omega arith) ∙ sym (l .inv .0 P f n C), l .inv .1)
+
+advance-requires : tie.Need-advance-requires Inv-loop μ-loop
+advance-requires c κs = search needs
+
+same-length-4 : tie.Need-same-length-4 Inv-loop μ-loop
+same-length-4 c = let k = c .before .before .before in k .advance .kept .1 .1 .0 ∙ round k .loop .inv .2
+
+returns-4 : tie.Need-returns-4 Inv-loop μ-loop
+returns-4 c =
     let k = c .before .before .before in
     let l = round k .loop in (
       λ P f n ec C.
           stops P _ _ _ f C (l .i) (n + l .i) _ _ _ _ _ (l .inv .1) (omega arith)
-          (k .advance .ensures P _ (l .i) f (n + l .i) (λ z. omega (arith, C .long))) (c .if3 .taken) ∙ sym (l .inv .0 P f n C),
+          (k .advance .ensures P _ (l .i) f (n + l .i) (λ z. omega (arith, C .long))) (c .if4 .taken) ∙ sym (l .inv .0 P f n C),
       l .inv .1,
     )
 
@@ -101,7 +101,7 @@ loop-again c =
     let l = round k .loop in (
       λ P f n C.
           l .inv .0 P f n C ∙ goes-on P _ _ _ f C (l .i) (n + l .i) _ _ _ _ _ (l .inv .1) (omega arith)
-          (k .advance .ensures P _ (l .i) f (n + l .i) (λ z. omega (arith, C .long))) (c .if3 .left) ∙ rw (add-assoc n (l .i) 1),
+          (k .advance .ensures P _ (l .i) f (n + l .i) (λ z. omega (arith, C .long))) (c .if4 .left) ∙ rw (add-assoc n (l .i) 1),
       omega arith,
       k .advance .kept .1 .1 .0 ∙ l .inv .2,
     )
@@ -114,16 +114,18 @@ run-block-spec =
     μ-loop
     sub-last
     loop-holds
-    same-length
-    returns
     mul-w
     shared-slice-read-w
+    same-length
+    returns
     leave-requires
     same-length-2
     returns-2
-    advance-requires
     same-length-3
     returns-3
+    advance-requires
+    same-length-4
+    returns-4
     add-i
     loop-less
     loop-again)

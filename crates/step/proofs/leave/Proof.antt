@@ -84,20 +84,22 @@ mul-x c = search needs
 element-copy-out-x : tie.Need-element-copy-out-x
 element-copy-out-x c = omega (arith, registers _ (ending (passed (c .before .before .before)) .0))
 
-add-untaken : tie.Need-add-untaken
-add-untaken c = search needs
-
 returns-4 : tie.Need-returns-4
 returns-4 c =
     let t = c .before in
     let p = branch (t .before) in
     λ P j f n m ec d. equal-taken P _ j f n _ m _ _ ec d (p .formed) _ (p .c-is) _ (p .a-is) (sym (p .opcode-is) ∙ t .if4 .taken) (c .if5 .taken)
 
+following-requires : tie.Need-following-requires
+following-requires c κs = search needs
+
 returns-5 : tie.Need-returns-5
 returns-5 c =
-    let t = c .before in
+    let e = c .before in
+    let t = e .before in
     let p = branch (t .before) in
-    λ P j f n m ec d. equal-left P _ j f n _ m _ _ ec d (p .formed) _ (p .c-is) _ (p .a-is) (sym (p .opcode-is) ∙ t .if4 .taken) (c .if5 .left)
+    rw (c .following .ensures)
+    (λ P j f n m ec d. equal-left P _ j f n _ m _ _ ec d (p .formed) _ (p .c-is) _ (p .a-is) (sym (p .opcode-is) ∙ t .if4 .taken) (e .if5 .left))
 
 b-requires : tie.Need-b-requires
 b-requires c κs = tt
@@ -119,15 +121,20 @@ returns-6 : tie.Need-returns-6
 returns-6 c =
     let y = c .before .before .before in
     let p = branch (y .before .before) in
-    λ P j f n m ec d.
-    less-taken P _ j f n _ m _ _ ec d (p .formed) _ (p .c-is) _ (p .a-is) _ (y .b .ensures .0) (is-less y) (sym (c .before .less .ensures) ∙ c .if6 .taken)
+    let l = sym (c .before .less .ensures) ∙ c .if6 .taken in
+    λ P j f n m ec d. less-taken P _ j f n _ m _ _ ec d (p .formed) _ (p .c-is) _ (p .a-is) _ (y .b .ensures .0) (is-less y) l
+
+following-requires-2 : tie.Need-following-requires-2
+following-requires-2 c κs = search needs
 
 returns-7 : tie.Need-returns-7
 returns-7 c =
-    let y = c .before .before .before in
+    let e = c .before in
+    let y = e .before .before .before in
     let p = branch (y .before .before) in
-    λ P j f n m ec d.
-    less-left P _ j f n _ m _ _ ec d (p .formed) _ (p .c-is) _ (p .a-is) _ (y .b .ensures .0) (is-less y) (sym (c .before .less .ensures) ∙ c .if6 .left)
+    let l = sym (e .before .less .ensures) ∙ e .if6 .left in
+    rw (c .following2 .ensures)
+    (λ P j f n m ec d. less-left P _ j f n _ m _ _ ec d (p .formed) _ (p .c-is) _ (p .a-is) _ (y .b .ensures .0) (is-less y) l)
 
 pub leave-spec : {M : Type 1} → statement M
 leave-spec =
@@ -142,12 +149,13 @@ leave-spec =
     a-requires
     mul-x
     element-copy-out-x
-    add-untaken
     returns-4
+    following-requires
     returns-5
     b-requires
     mul-less
     element-copy-out-less
     less-requires
     returns-6
+    following-requires-2
     returns-7)
