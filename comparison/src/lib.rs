@@ -1,5 +1,7 @@
 //! The proved library as one of two implementations of the same four calls.
 
+pub mod fast;
+
 use ramdulsi as proved;
 use ramdulsi_reference::{Loader, RunAnswer, Verdict};
 

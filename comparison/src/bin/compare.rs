@@ -1,8 +1,8 @@
-//! Asks the proved library and the plain one the same, on valid, nearly valid and random inputs, and lets accepted routines take turns
-//! with both checks asked again: `compare [SEED [CASES [SECONDS]]]`. Without a seed it takes one from the clock. The first difference
-//! is shown whole, as lines that the program `ramdulsi` and the plain `protocol` read.
+//! Asks the proved library and the plain one the same, on valid, nearly valid and random inputs, a run of the one written for speed as
+//! well, and lets accepted routines take turns with both checks asked again: `compare [SEED [CASES [SECONDS]]]`. Without a seed it takes
+//! one from the clock. The first difference is shown whole, as lines that the program `ramdulsi` and the plain `protocol` read.
 
-use ramdulsi_comparison::Proved;
+use ramdulsi_comparison::{fast, Proved};
 use ramdulsi_reference::generate::{change, random, Case};
 use ramdulsi_reference::hunt::{numbered, turns, Seen};
 use ramdulsi_reference::protocol::{answer, line, REQUESTS};
@@ -13,12 +13,17 @@ use std::time::{Duration, Instant, SystemTime, UNIX_EPOCH};
 /// Of each request the answer numbers that occurred.
 type Numbers = [BTreeSet<u32>; 4];
 
-/// Puts a case to both libraries; an error shows the first request that they answer differently.
+/// Puts a case to all; an error shows the first request that they answer differently.
 fn same(c: &Case, numbers: &mut Numbers) -> Result<(), String> {
     for (request, seen) in REQUESTS.into_iter().zip(numbers) {
         let (a, b) = (answer::<Proved>(request, c), answer::<Plain>(request, c));
         if a != b {
             return Err(format!("the answers differ\n{}\nproved: {a}\nplain:  {b}", line(request, c)));
+        }
+        if request == "run" {
+            if let Some(quick) = fast::answers(c).into_iter().find(|quick| *quick != b) {
+                return Err(format!("the answers differ\n{}\nfast:   {quick}\nplain:  {b}", line(request, c)));
+            }
         }
         seen.insert(a.number());
     }

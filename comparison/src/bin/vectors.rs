@@ -1,7 +1,7 @@
-//! Puts requests of the line protocol to the proved library and to the plain one and compares with the right answers:
-//! `vectors REQUESTS ANSWERS ..`. Lines that are no requests are the program's matter and are passed over.
+//! Puts requests of the line protocol to the proved library and to the plain one, and runs to the one written for speed as well, and
+//! compares with the right answers: `vectors REQUESTS ANSWERS ..`. Lines that are no requests are the program's matter and are passed over.
 
-use ramdulsi_comparison::Proved;
+use ramdulsi_comparison::{fast, Proved};
 use ramdulsi_reference::protocol::{answer, read};
 use ramdulsi_reference::Plain;
 use std::fs::read_to_string;
@@ -30,7 +30,11 @@ fn main() {
                 println!("vectors: {}: no request, though its answer is {right}\n{line}", pair[0]);
                 exit(1)
             };
-            for (name, given) in [("proved", answer::<Proved>(request, &c)), ("plain", answer::<Plain>(request, &c))] {
+            let mut all = vec![("proved", answer::<Proved>(request, &c)), ("plain", answer::<Plain>(request, &c))];
+            if request == "run" {
+                all.extend(fast::answers(&c).map(|given| ("fast", given)));
+            }
+            for (name, given) in all {
                 let given = given.to_string();
                 if given != right {
                     println!("vectors: {}\n{line}\nright:  {right}\n{name}: {given}", pair[0]);
@@ -39,6 +43,6 @@ fn main() {
             }
             count += 1;
         }
-        println!("vectors: {}: {count} requests answered alike by both", pair[0]);
+        println!("vectors: {}: {count} requests answered alike by all", pair[0]);
     }
 }

@@ -1,0 +1,97 @@
+//! What a row measures, and the words that its input is made of.
+
+use ramdulsi_reference::generate::Case;
+use ramdulsi_reference::{Loader, RunAnswer};
+
+#[derive(Clone, Copy, PartialEq, Eq)]
+pub enum Call {
+    Check,
+    Memory,
+    Entry,
+    Run,
+}
+
+/// The answer of a call; of a check its number and place.
+pub fn call<L: Loader>(which: Call, c: &Case, memory: &mut [u32]) -> RunAnswer {
+    let v = match which {
+        Call::Check => L::check(&c.types, &c.tags, &c.blocks, &c.code),
+        Call::Memory => L::memory_check(&c.types, &c.tags, &c.allocations, memory),
+        Call::Entry => L::entry_check(&c.types, &c.tags, &c.allocations, memory, &c.blocks, &c.code, c.block, c.registers),
+        Call::Run => return L::run(&c.blocks, &c.code, memory, c.block, c.registers, c.budget),
+    };
+    RunAnswer { number: v.number, block: v.first, index: v.second, finished: 0, registers: [0; 8] }
+}
+
+/// What a row measures at one size.
+pub struct Input {
+    pub case: Case,
+    /// how many units the time is divided by
+    pub units: usize,
+    /// number and place of the answer that the row intends
+    pub answer: (u32, u32, u32),
+}
+
+/// A call over inputs of three sizes; `make` gets 1, 2 and 4.
+pub struct Row {
+    pub name: String,
+    pub unit: &'static str,
+    pub which: Call,
+    pub make: Box<dyn Fn(usize) -> Input>,
+}
+
+impl Row {
+    pub fn new(name: &str, unit: &'static str, which: Call, make: impl Fn(usize) -> Input + 'static) -> Row {
+        Row { name: name.to_string(), unit, which, make: Box::new(make) }
+    }
+}
+
+pub const fn ins(op: u32, a: u32, b: u32, c: u32) -> u32 {
+    op << 24 | a << 20 | b << 16 | c
+}
+
+pub const fn ty(kind: u32, t: u32, d: u32, e: u32) -> u32 {
+    kind << 24 | t << 16 | d << 8 | e
+}
+
+/// The dependency byte of a constant.
+pub const fn constant(c: u32) -> u32 {
+    c + 8
+}
+
+/// The nine words of a table's row.
+pub fn nine(head: usize, words: &[u32]) -> Vec<u32> {
+    let mut r = vec![head as u32];
+    r.extend(words);
+    r.resize(9, 0);
+    r
+}
+
+/// Blocks that each have a body and an end, all with one annotation; `end` gets the block and whether it is the last.
+pub fn routine(n: usize, annotation: &[u32], body: &[u32], end: impl Fn(usize, bool) -> u32) -> Case {
+    let mut c = Case::default();
+    for b in 0..n {
+        c.blocks.extend(nine(body.len() + 1, annotation));
+        c.code.extend(body);
+        c.code.push(end(b, b + 1 == n));
+    }
+    c
+}
+
+/// A jump to the next block; the last halts.
+pub fn onward(b: usize, last: bool) -> u32 {
+    if last {
+        0
+    } else {
+        ins(10, 0, 0, b as u32 + 1)
+    }
+}
+
+/// A jump to the next block; the last leads back to the first.
+pub fn around(b: usize, last: bool) -> u32 {
+    ins(10, 0, 0, if last { 0 } else { b as u32 + 1 })
+}
+
+/// The body of a block of full length.
+pub fn body(one: impl Fn(u32) -> u32) -> Vec<u32> {
+    (0..31).map(one).collect()
+}
