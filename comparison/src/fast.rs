@@ -1,20 +1,21 @@
 //! The run written for speed alone, in safe Rust: what the benchmark holds the proved run against beside the plain one. It answers as
 //! document 01 has it for any input, and the vectors and the differential test hold it to that.
 //!
-//! A block's form (Q7 to Q9) is asked once in a call, when the block is first reached; then its words are carried out as they stand. The
-//! ends of sound blocks are kept, so that a jump waits for one load. While few blocks were met, a jump table over the opcodes is fastest:
-//! the processor learns what comes next. Of many it learns nothing, and each miss costs more than an instruction; from then on the opcodes
-//! that only compute are told apart without a branch.
+//! The first time that a block is reached in a call, Q7 to Q9 are asked of each instruction as it is carried out; from then on the block is
+//! known to be sound, and its words are carried out as they stand. The ends of sound blocks are kept, so that a jump waits for one load.
+//! While few blocks were met, a jump table over the opcodes is fastest: the processor learns what comes next. Of many it learns nothing,
+//! and each miss costs more than an instruction; then the opcodes that only compute are told apart without a branch.
 //!
-//! Tried besides, in ns an instruction on an Intel Xeon (loop of a correction; random code of all plain opcodes, 4 blocks; 256 blocks),
-//! where this one took 1.7; 1.8; 4.5:
-//! - decoded once a block to an enum, a match over it: 2.1; 1.4; 13.3
-//! - decoded once a block to a struct, a jump table over its opcode: 1.9; 1.7; 11.1
-//! - not decoded, each instruction asked each time, then a jump table: 2.3; 2.3; 10.0
-//! - not decoded, each instruction asked each time, then told apart without a branch, as the proved run has it: 2.7; 2.5; 4.2
-//! - blocks asked once, a jump table throughout: 1.7; 1.6; 11.5
-//! - blocks asked once, no branch throughout: 3.0; 2.0; 4.6
-//! - no branch for loads and stores either, every instruction touching a word of memory: 3.2; 2.7; 7.1
+//! Tried besides, all in one process on an Intel Xeon: ns an instruction in the loop of a correction; in random code of all plain opcodes, 4
+//! blocks; 256 blocks; and over all rows of run the geometric mean of the ratio to the plain one.
+//! - this one: 1.7; 1.6; 4.5; 0.42
+//! - decoded once a block to an enum, a match over it: 2.0; 1.3; 13.3; 0.51
+//! - decoded once a block to a struct, a jump table over its opcode: 1.9; 1.6; 10.6; 0.54
+//! - not decoded, each instruction asked each time, then a jump table: 2.3; 2.4; 10.1; 0.64
+//! - not decoded, each instruction asked each time, then told apart without a branch, as the proved run has it: 2.7; 2.5; 3.7; 0.60
+//! - a block asked before it is first carried out, then a jump table: 1.8; 1.8; 11.9; 0.54
+//! - a block asked before it is first carried out, then no branch: 3.0; 2.0; 4.9; 0.52
+//! - the last without a branch for loads and stores either, each instruction touching a word of memory: 3.2; 2.7; 7.1; 0.69
 
 use ramdulsi_reference::generate::Case;
 use ramdulsi_reference::machine::{form, parts};
@@ -73,19 +74,20 @@ fn run_foreseeing<const FEW: usize>(
             finished,
             registers,
         };
-        if ends[b] == UNKNOWN {
-            if !sound(&code[from..to], b, count) {
-                let (i, number) = refused(&code[from..to], memory, &mut r, b, count);
-                return stop(number, i, finished, r);
-            }
-            ends[b] = code[to - 1];
-            met += 1;
-        }
-        let end = ends[b];
         let body = &code[from..to - 1];
-        let out = if met <= FEW { carried_out(body, &mut r, memory, by_table) } else { carried_out(body, &mut r, memory, by_selects) };
-        if let Some(i) = out {
-            return stop(18, i, finished, r);
+        let mut end = ends[b];
+        let stopped = if end == UNKNOWN {
+            met += 1;
+            end = code[to - 1];
+            ends[b] = end;
+            first_time(body, &mut r, memory).or_else(|| no(body.len(), form(parts(end), true, b, count)))
+        } else if met <= FEW {
+            carried_out(body, &mut r, memory, by_table)
+        } else {
+            carried_out(body, &mut r, memory, by_selects)
+        };
+        if let Some((i, number)) = stopped {
+            return stop(number, i, finished, r);
         }
         finished += 1;
         let (a, c) = ((end >> 20) as usize % 8, end % 65536);
@@ -125,36 +127,36 @@ fn opening(blocks: &[u32], code: &[u32], memory: usize, block: u32, starts: &mut
     }
 }
 
-/// Whether no instruction of block b has a no in Q7 to Q9. It goes on after a no: of sound blocks there are more.
-fn sound(part: &[u32], b: usize, count: usize) -> bool {
-    let end = part.len() - 1;
-    let body = part[..end].iter().fold(true, |all, &w| {
+/// A number and its offset, if it is one of a no.
+fn no(i: usize, number: u32) -> Option<(usize, u32)> {
+    (number != 0).then_some((i, number))
+}
+
+/// Asks and carries out the instructions before a block's end; gives the first no. Not inlined, so that the loop over blocks stays small.
+#[inline(never)]
+fn first_time(body: &[u32], r: &mut [u32; 8], memory: &mut [u32]) -> Option<(usize, u32)> {
+    for (i, &w) in body.iter().enumerate() {
         let op = w >> 24;
         let divisor = op != 6 || w % 65536 != 0;
-        all & (op.wrapping_sub(1) < 9) & (w & ZERO[op as usize % 16] == 0) & divisor
-    });
-    body && form(parts(part[end]), true, b, count) == 0
-}
-
-/// A block that is not sound, up to its first no: the offset and the number. It ends the run, so it need not be fast.
-#[cold]
-fn refused(part: &[u32], memory: &mut [u32], r: &mut [u32; 8], b: usize, count: usize) -> (usize, u32) {
-    for (i, &w) in part.iter().enumerate() {
-        let number = form(parts(w), i + 1 == part.len(), b, count);
-        if number != 0 {
-            return (i, number);
+        if !((op.wrapping_sub(1) < 9) & (w & ZERO[op as usize % 16] == 0) & divisor) {
+            return no(i, form(parts(w), false, 0, 0));
         }
-        if !by_table(w, r, memory) {
-            return (i, 18);
+        if !by_selects(w, r, memory) {
+            return Some((i, 18));
         }
     }
-    unreachable!("the block has a no")
+    None
 }
 
-/// Carries out the instructions before a block's end; gives the offset of one whose address is outside memory.
+/// Carries out the instructions before the end of a block known to be sound; gives the first no, which is one of Q18.
 #[inline(always)]
-fn carried_out(body: &[u32], r: &mut [u32; 8], memory: &mut [u32], step: impl Fn(u32, &mut [u32; 8], &mut [u32]) -> bool) -> Option<usize> {
-    body.iter().position(|&w| !step(w, r, memory))
+fn carried_out(
+    body: &[u32],
+    r: &mut [u32; 8],
+    memory: &mut [u32],
+    step: impl Fn(u32, &mut [u32; 8], &mut [u32]) -> bool,
+) -> Option<(usize, u32)> {
+    body.iter().position(|&w| !step(w, r, memory)).map(|i| (i, 18))
 }
 
 /// A well-formed instruction that ends no block, by a jump table; false if its address is outside memory.

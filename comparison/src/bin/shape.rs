@@ -1,0 +1,172 @@
+//! Looks at the machine code of the built archive for what its speed rests on and no proof sees: `shape ARCHIVE`. It measures nothing, so
+//! load does not matter to it. Where there is no objdump it says so and passes.
+//!
+//! - Known equality is split: the callers ask whether two values are one, and the rest is `fits::joined`, a function of its own.
+//! - A run copies neither its registers nor a table from instruction to instruction or from block to block: no vector register is used
+//!   where control can come from opcode 6's division and go back to it. Copies before the loop and after it are free.
+
+use std::io::ErrorKind;
+use std::process::{exit, Command};
+
+struct Instruction {
+    function: String,
+    address: u64,
+    text: String,
+    /// what a call or a jump leads to outside its function
+    symbol: String,
+}
+
+impl Instruction {
+    fn is(&self, mnemonic: &str) -> bool {
+        self.text.split_whitespace().next() == Some(mnemonic)
+    }
+
+    /// Whether the next instruction in the text is never the next carried out.
+    fn leaves(&self) -> bool {
+        self.is("jmp") || self.is("ret") || self.is("ud2")
+    }
+
+    fn divides(&self) -> bool {
+        self.is("div") || self.is("divl")
+    }
+
+    fn copies(&self) -> bool {
+        ["%xmm", "%ymm", "%zmm", "rep movs"].iter().any(|part| self.text.contains(part)) || matches!(&*self.symbol, "memcpy" | "memmove")
+    }
+
+    /// The address that a call or a jump within the function has as its operand.
+    fn target(&self) -> Option<u64> {
+        u64::from_str_radix(self.text.split_whitespace().nth(1)?, 16).ok()
+    }
+}
+
+/// The instructions of objdump's text, which has a line for each function, instruction and place to be filled in by the linker.
+fn read(text: &str) -> Vec<Instruction> {
+    let mut all: Vec<Instruction> = vec![];
+    let mut function = String::new();
+    for line in text.lines() {
+        if let Some((_, name)) = line.strip_suffix(">:").and_then(|l| l.split_once(" <")) {
+            function = name.to_string();
+        } else if let Some((_, to)) = line.split_once(": R_X86_64_").and_then(|(_, r)| r.split_once('\t')) {
+            if let Some(last) = all.last_mut() {
+                let name = to.strip_prefix(".text.").unwrap_or(to);
+                last.symbol = name.split_once("-0x").map_or(name, |(name, _)| name).to_string();
+            }
+        } else if let Some((address, text)) = line.split_once(":\t") {
+            let Ok(address) = u64::from_str_radix(address.trim(), 16) else { continue };
+            all.push(Instruction { function: function.clone(), address, text: text.trim().to_string(), symbol: String::new() });
+        }
+    }
+    all
+}
+
+/// Where control can go from each instruction. A call goes to its function, whose returns go behind the call, and a jump to another
+/// function returns as its own does; a jump by a table goes wherever nothing else leads.
+fn edges(all: &[Instruction]) -> Vec<Vec<usize>> {
+    let of = |name: &str| -> Vec<usize> { (0..all.len()).filter(|&n| all[n].function == name).collect() };
+    let returns = |name: &str| -> Vec<usize> { of(name).into_iter().filter(|&n| all[n].is("ret")).collect() };
+    let by_table = |i: &Instruction| i.is("jmp") && i.text.contains('*');
+    let mut to = vec![vec![]; all.len()];
+    for (k, i) in all.iter().enumerate() {
+        if !i.leaves() && k + 1 < all.len() {
+            to[k].push(k + 1);
+        }
+        if by_table(i) || !i.is("call") && !i.text.starts_with('j') {
+            continue;
+        }
+        if i.symbol.is_empty() {
+            to[k].extend(of(&i.function).iter().find(|&&n| Some(all[n].address) == i.target()));
+        } else {
+            let behind = if i.is("call") { to[k].clone() } else { returns(&i.function) };
+            to[k].extend(of(&i.symbol).first());
+            returns(&i.symbol).into_iter().for_each(|n| to[n].extend(&behind));
+        }
+    }
+    let mut led = vec![false; all.len()];
+    to.iter().flatten().for_each(|&n| led[n] = true);
+    for (k, i) in all.iter().enumerate().filter(|(_, i)| by_table(i)) {
+        to[k].extend(of(&i.function).into_iter().skip(1).filter(|&n| !led[n]));
+    }
+    to
+}
+
+/// What is reached from some instructions, those included.
+fn reached(from: Vec<usize>, edges: &[Vec<usize>]) -> Vec<bool> {
+    let mut seen = vec![false; edges.len()];
+    let mut open = from;
+    while let Some(k) = open.pop() {
+        if !std::mem::replace(&mut seen[k], true) {
+            open.extend(&edges[k]);
+        }
+    }
+    seen
+}
+
+/// The loop that carries out instructions: what lies on a way from a division of the run back to it.
+fn running(all: &[Instruction]) -> Vec<usize> {
+    let to = edges(all);
+    let mut back = vec![vec![]; all.len()];
+    for (k, next) in to.iter().enumerate() {
+        next.iter().for_each(|&n| back[n].push(k));
+    }
+    let start = all.iter().position(|i| i.function == "ramdulsi_run");
+    let run = reached(start.into_iter().collect(), &to);
+    let mut found = vec![false; all.len()];
+    for k in (0..all.len()).filter(|&k| run[k] && all[k].divides()) {
+        let (after, before) = (reached(to[k].clone(), &to), reached(back[k].clone(), &back));
+        (0..all.len()).for_each(|n| found[n] |= after[n] && before[n]);
+    }
+    (0..all.len()).filter(|&n| found[n]).collect()
+}
+
+/// What is wrong with known equality, and what is right.
+fn split(all: &[Instruction]) -> Result<String, String> {
+    let has = |name: &str| all.iter().any(|i| i.function.contains(name));
+    match (has("fits::joined"), has("fits::known_equal")) {
+        (true, false) => Ok("fits::joined is a function of its own, fits::known_equal is none".to_string()),
+        (joined, whole) => Err(format!(
+            "function fits::joined: {joined}, function fits::known_equal: {whole}; expected true and false: known_equal asks x == y and \
+             leaves the rest to joined, which has a second caller"
+        )),
+    }
+}
+
+/// What is wrong with the loop of the run, and what is right.
+fn narrow(all: &[Instruction]) -> Result<String, String> {
+    let body = running(all);
+    let copies: Vec<&Instruction> = body.iter().map(|&k| &all[k]).filter(|i| i.copies()).collect();
+    match copies.first() {
+        None if body.is_empty() => Err("no loop of ramdulsi_run divides; expected the one that carries out instructions".to_string()),
+        None => Ok(format!("the run's loop of {} machine instructions copies nothing", body.len())),
+        Some(i) => Err(format!(
+            "in the run's loop of {} machine instructions {} copy registers or a table, the first {} at {}+{:#x}; expected none: \
+             step::advance has no loop, every way out of it hands back the registers with one word set, and the block takes over that word",
+            body.len(),
+            copies.len(),
+            i.text,
+            i.function,
+            i.address
+        )),
+    }
+}
+
+fn main() {
+    let archive = std::env::args().nth(1).expect("the path of an archive");
+    let text = match Command::new("objdump").args(["-dr", "--no-show-raw-insn", &archive]).output() {
+        Ok(made) if made.status.success() => String::from_utf8_lossy(&made.stdout).to_string(),
+        Err(e) if e.kind() == ErrorKind::NotFound => {
+            println!("shape: no objdump on this machine, so the archive's machine code is not looked at");
+            return;
+        }
+        _ => {
+            println!("shape: objdump does not read {archive}");
+            exit(1)
+        }
+    };
+    let all = read(&text);
+    let found = [split(&all), narrow(&all)];
+    for Ok(line) | Err(line) in &found {
+        println!("shape: {line}");
+    }
+    exit(i32::from(found.iter().any(Result::is_err)));
+}
