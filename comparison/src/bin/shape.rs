@@ -5,9 +5,11 @@
 //! - A run copies neither its registers nor a table from instruction to instruction or from block to block: no vector register is used
 //!   where control can come from opcode 6's division and go back to it. Copies before the loop and after it are free.
 
+use std::collections::BTreeSet;
 use std::io::ErrorKind;
 use std::process::{exit, Command};
 
+#[derive(Clone)]
 struct Instruction {
     function: String,
     address: u64,
@@ -102,21 +104,32 @@ fn reached(from: Vec<usize>, edges: &[Vec<usize>]) -> Vec<bool> {
     seen
 }
 
+/// The instructions of a function and of all that it calls.
+fn called(all: &[Instruction], name: &str) -> Vec<Instruction> {
+    let mut names = vec![name];
+    let mut k = 0;
+    while k < names.len() {
+        let symbols = all.iter().filter(|i| i.function == names[k]).map(|i| &*i.symbol);
+        let new: BTreeSet<&str> = symbols.filter(|s| !names.contains(s)).collect();
+        names.extend(new);
+        k += 1;
+    }
+    all.iter().filter(|i| names.contains(&&*i.function)).cloned().collect()
+}
+
 /// The loop that carries out instructions: what lies on a way from a division of the run back to it.
-fn running(all: &[Instruction]) -> Vec<usize> {
-    let to = edges(all);
-    let mut back = vec![vec![]; all.len()];
+fn running(run: &[Instruction]) -> Vec<&Instruction> {
+    let to = edges(run);
+    let mut back = vec![vec![]; run.len()];
     for (k, next) in to.iter().enumerate() {
         next.iter().for_each(|&n| back[n].push(k));
     }
-    let start = all.iter().position(|i| i.function == "ramdulsi_run");
-    let run = reached(start.into_iter().collect(), &to);
-    let mut found = vec![false; all.len()];
-    for k in (0..all.len()).filter(|&k| run[k] && all[k].divides()) {
+    let mut found = vec![false; run.len()];
+    for k in (0..run.len()).filter(|&k| run[k].divides()) {
         let (after, before) = (reached(to[k].clone(), &to), reached(back[k].clone(), &back));
-        (0..all.len()).for_each(|n| found[n] |= after[n] && before[n]);
+        (0..run.len()).for_each(|n| found[n] |= after[n] && before[n]);
     }
-    (0..all.len()).filter(|&n| found[n]).collect()
+    run.iter().zip(found).filter(|(_, found)| *found).map(|(i, _)| i).collect()
 }
 
 /// What is wrong with known equality, and what is right.
@@ -133,8 +146,9 @@ fn split(all: &[Instruction]) -> Result<String, String> {
 
 /// What is wrong with the loop of the run, and what is right.
 fn narrow(all: &[Instruction]) -> Result<String, String> {
-    let body = running(all);
-    let copies: Vec<&Instruction> = body.iter().map(|&k| &all[k]).filter(|i| i.copies()).collect();
+    let run = called(all, "ramdulsi_run");
+    let body = running(&run);
+    let copies: Vec<&&Instruction> = body.iter().filter(|i| i.copies()).collect();
     match copies.first() {
         None if body.is_empty() => Err("no loop of ramdulsi_run divides; expected the one that carries out instructions".to_string()),
         None => Ok(format!("the run's loop of {} machine instructions copies nothing", body.len())),
