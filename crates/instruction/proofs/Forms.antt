@@ -4,12 +4,13 @@ use mathlib.Core.Bool.{Bool, true, false, false≢true}
 use mathlib.Core.List.{List, [], _∷_}
 use Prim.Native.Nat.{ℕ, zero, suc, _/_, _%_, _<_, _≤_}
 use native.Mathlib.Omega.{arith}
-use lib.Dec.{ltb, leb, eqb}
-use lib.ListN.{length, getD}
+use lib.Dec.{ltb}
+use lib.ListN.{getD}
 use borrow.Author.Tests.{ltb-true, ltb-false, eqb-true}
 use Rattle.model.specs.Question.{_and_}
 use Rattle.model.specs.Word.{opcodeOf, aOf, bOf, cOf}
-use Rattle.model.specs.Machine.{Plain, constant, copy, add, subtract, multiply, divide, move, load, store, End, halt, jump, ifEqual, ifLess, Instruction, plain, end, malformed, register, unused, nonzero, formed, byOpcode, decode, hasForm, wellFormed}
+use Rattle.model.specs.Machine.{constant, copy, add, subtract, multiply, divide, move, load, store, halt, jump, ifEqual, ifLess, Instruction, plain}
+use Rattle.model.specs.Machine.{end, malformed, register, unused, nonzero, formed, byOpcode, decode, hasForm, wellFormed}
 use Rattle.model.proofs.Logic.{byTest, and-true}
 use Rattle.model.proofs.Lists.{getD-past}
 

@@ -4,13 +4,15 @@ use mathlib.Core.Logic.{_⊎_, inl, inr}
 use mathlib.Core.Bool.{Bool, true, false, false≢true}
 use Prim.Native.Nat.{ℕ, suc, _+_, _/_, _%_, _<_, _≤_}
 use native.Mathlib.Omega.{arith}
-use lib.Dec.{ltb, leb, eqb}
+use lib.Dec.{ltb, eqb}
 use borrow.Author.Tests.{lt-ltb, le-ltb, eq-eqb, ne-eqb}
 use Rattle.model.specs.Question.{_and_, pick}
 use Rattle.model.specs.Word.{opcodeOf, aOf, bOf, cOf}
-use Rattle.model.specs.Machine.{Plain, constant, copy, add, subtract, multiply, divide, move, load, store, End, halt, jump, ifEqual, ifLess, Instruction, plain, end, malformed, decode, hasForm, wellFormed, targetsExist}
+use Rattle.model.specs.Machine.{Plain, constant, copy, add, subtract, multiply, divide, move, load, store, End, halt, jump, ifEqual, ifLess}
+use Rattle.model.specs.Machine.{Instruction, plain, end, malformed, decode, hasForm, wellFormed, targetsExist}
 use Rattle.model.proofs.Logic.{byTest, byEqual, byLess}
-use Rattle.instruction.proofs.Forms.{row-0, row-1, row-2, row-3, row-4, row-5, row-6, row-7, row-8, row-9, row-10, row-11, row-12, row-past, well, decoded, registers, known}
+use Rattle.instruction.proofs.Forms.{row-0, row-1, row-2, row-3, row-4, row-5, row-6, row-7, row-8, row-9, row-10, row-11, row-12, row-past}
+use Rattle.instruction.proofs.Forms.{well, decoded, known}
 use Rattle.instruction.specs.Form.{leadsOn, formNo}
 
 -- a test after one that holds

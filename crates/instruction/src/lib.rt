@@ -1,7 +1,7 @@
 // The form of an instruction word: Q7, Q8 and Q9, asked alike by the check and by a run.
 ghost use mathlib.Core.Path.{_≡_};
-ghost use mathlib.Core.Bool.{Bool, true};
-ghost use Prim.Native.Nat.{ℕ, _/_, _<_};
+ghost use mathlib.Core.Bool.{true};
+ghost use Prim.Native.Nat.{_/_, _<_};
 ghost use Rattle.model.specs.Machine.{decode, wellFormed};
 ghost use Rattle.instruction.specs.Rows.{opcodeRows};
 ghost use Rattle.instruction.specs.Form.{leadsOn, formNo};

@@ -1,13 +1,12 @@
 -- A block: one instruction after another, and the last.
 use mathlib.Core.Path.{_≡_, refl, sym, _∙_}
 use mathlib.Core.List.{List}
-use Prim.Native.Nat.{ℕ, zero, suc, _+_, _-_, _<_, _≤_}
-use native.Mathlib.Nat.{sub-eq-zero-of-le}
+use Prim.Native.Nat.{ℕ, suc, _+_, _-_, _<_, _≤_}
 use native.Mathlib.Numerals.{add-one}
 use native.Mathlib.Omega.{arith}
 use lib.ListN.{length, getD}
 use borrow.Author.Tests.{lt-ltb, le-ltb, ne-eqb}
-use Rattle.model.specs.Question.{questionOf, q22}
+use Rattle.model.specs.Question.{questionOf}
 use Rattle.model.specs.Table.{Routine}
 use Rattle.model.specs.Machine.{decode, State, Step, goes, halts, faults, need, perform, step, onward, steps}
 use Rattle.table.proofs.Questions.{left}

@@ -1,6 +1,6 @@
 -- A run: blocks up to a budget, and the opening questions.
 use mathlib.Core.Path.{_≡_, refl, sym, ap, _∙_}
-use mathlib.Core.Bool.{Bool, true, false}
+use mathlib.Core.Logic.{_⊎_, inl, inr}
 use mathlib.Core.List.{List}
 use Prim.Native.Nat.{ℕ, zero, suc, _+_, _-_, _<_, _≤_}
 use native.Mathlib.Nat.{zero-add, add-zero, sub-eq-zero-of-le}
@@ -9,18 +9,20 @@ use native.Mathlib.Omega.{arith}
 use lib.ListN.{length, take, drop, length-take, length-drop}
 use borrow.Author.Tests.{lt-ltb, le-ltb}
 use Rattle.model.specs.declared.Verdict.{Verdict}
-use Rattle.model.specs.Question.{Question, numberOf, questionOf, q1, q8, q9, q16, q18, q22, refusal, Outcome, ok, refused, ask, then, refusing, verdictOf}
+use Rattle.model.specs.Question.{Question, numberOf, questionOf, q1, q16, refusal, Outcome, ok, refused, ask, then, refusing, verdictOf}
 use Rattle.model.specs.Table.{Routine, routineOf, startOf, headOf, rows, codeLengthsAsk, lengthsAsk}
-use Rattle.model.specs.Machine.{Instruction, plain, end, malformed, instructionAt, Next, stop, enter, next, State, Step, goes, halts, faults, need, leave, perform, step, Ran, halted, paused, faulted, onward, finish, steps, runBlocks, Run, answerOf, startAsk, memoryLengthAsk, runAsk, opened, run}
+use Rattle.model.specs.Machine.{entering, State, Step, goes, halts, faults, step, Ran, halted, paused, faulted, onward, finish, steps, runBlocks}
+use Rattle.model.specs.Machine.{Run, answerOf, startAsk, memoryLengthAsk, runAsk, opened, run}
 use Rattle.model.proofs.Logic.{number-unless}
 use Rattle.model.proofs.BlockSound.{Sized}
 use Rattle.model.proofs.TableLaws.{sized}
-use Rattle.model.proofs.MachineLaws.{goes-halts, goes-faults, OfCode, of-7, of-8, of-9, of-18, of-22, fault-asks, Placed, placed-here, placed-step, later, laterRan, blocks-later}
+use Rattle.model.proofs.MachineLaws.{goes-halts, goes-faults, OfCode, of-7, of-8, of-9, of-18, of-22, fault-asks, Placed, placed-here, placed-step}
+use Rattle.model.proofs.MachineLaws.{later, laterRan, blocks-later}
 use Rattle.model.proofs.RunCalls.{run-is}
 use Rattle.table.proofs.Questions.{left, no-refusal, then-on, then-stops}
 use Rattle.table.proofs.Laws.{start-more}
 use Rattle.step.specs.declared.Exit.{Exit}
-use Rattle.step.specs.declared.Exit.the-variants.{To, Halted, No}
+use Rattle.step.specs.declared.Exit.the-variants.{To, Following, Halted, No}
 use Rattle.step.specs.Answer.{at, exitOf}
 use Rattle.machine.specs.Run.{Covers, ranOf}
 
@@ -54,6 +56,15 @@ module _ (P : Routine) where
 
 -- ---- where a block's end leads
 
+-- from the block b to the block t
+abbrev pub Leads : Exit → ℕ → ℕ → Type 0
+Leads x b t = (x ≡ To t) ⊎ ((x ≡ Following) × (t ≡ b + 1))
+
+enters : (x : Exit) (s : State) (t : ℕ) → Leads x (s .block) t → exitOf x s ≡ goes (entering s t)
+unfolding exitOf
+enters x s t (inl e) = rw e
+enters x s t (inr (e, n)) = rw (e, n, add-one (s .block))
+
 -- the steps of a block that exists lead to a block that exists
 module _ (P : Routine) (S : Sized P) where
   steps-placed : (n : ℕ) (s₀ s s' : State) → Placed P s₀ s → goes s' ≡ steps P n s → Placed P s₀ s'
@@ -61,7 +72,8 @@ module _ (P : Routine) (S : Sized P) where
   steps-placed zero s₀ s s' A e = let z : s' ≡ s = cc in rw z A
   steps-placed (suc n) s₀ s s' A e = go (step P s) refl (λ t B. steps-placed n s₀ t s' B) e
     where
-      go : (x : Step) → step P s ≡ x → ((t : State) → Placed P s₀ t → goes s' ≡ steps P n t → Placed P s₀ s') → goes s' ≡ onward x (λ t. steps P n t) → Placed P s₀ s'
+      go : (x : Step) → step P s ≡ x → ((t : State) → Placed P s₀ t → goes s' ≡ steps P n t → Placed P s₀ s')
+          → goes s' ≡ onward x (λ t. steps P n t) → Placed P s₀ s'
       go (goes t) p rest e = rest t (placed-step P S s₀ s t A p) e
       go (halts t) p rest e = absurd (goes-halts e)
       go (faults q t) p rest e = absurd (goes-faults e)
@@ -73,7 +85,8 @@ module _ (blocks code : List ℕ) (q : lengthsAsk (routineOf blocks code) ≡ ok
   unfolding routineOf
   bounds b h = let S = sized blocks code q in (S .least b h, S .inside b h)
 
-  pub covers : (b first past : ℕ) → b < rows blocks → first ≡ startOf blocks b → past ≡ startOf blocks (b + 1) → Covers (routineOf blocks code) b (take (past - first) (drop first code)) (length code - first)
+  pub covers : (b first past : ℕ) → b < rows blocks → first ≡ startOf blocks b → past ≡ startOf blocks (b + 1)
+      → Covers (routineOf blocks code) b (take (past - first) (drop first code)) (length code - first)
   unfolding routineOf
   covers b first past h e₁ e₂ =
       let (l, k) = bounds b h in
@@ -82,11 +95,12 @@ module _ (blocks code : List ℕ) (q : lengthsAsk (routineOf blocks code) ≡ ok
 
   -- a block's end leads to a block of the table
   pub leads-on : (n b j f c c' : ℕ) (r m r' m' : List ℕ) → b < rows blocks
-      → (x : Exit) → exitOf x (at b j r' m' f c') ≡ steps (routineOf blocks code) n (at b 0 r m f c) → (t : ℕ) → x ≡ To t → t < rows blocks
-  unfolding routineOf exitOf
+      → (x : Exit) → exitOf x (at b j r' m' f c') ≡ steps (routineOf blocks code) n (at b 0 r m f c) → (t : ℕ) → Leads x b t → t < rows blocks
+  unfolding routineOf
   leads-on n b j f c c' r m r' m' h x e t z =
       let S = sized blocks code q in
-      steps-placed (routineOf blocks code) S n (at b 0 r m f c) (at b 0 r m f c) _ (placed-here (routineOf blocks code) S (at b 0 r m f c) h refl) (rw z at e) .exists
+      let s = at b 0 r m f c in
+      steps-placed (routineOf blocks code) S n s s _ (placed-here (routineOf blocks code) S s h refl) (sym (enters x _ t z) ∙ e) .exists
 
 -- ---- a run without the count of instructions
 
@@ -120,9 +134,9 @@ module _ (P : Routine) where
     unfolding runBlocks
     block-more = rw (left budget f h, ← e)
 
-    pub run-on : (t : ℕ) → x ≡ To t → rest (budget - f) b r m f ≡ rest (budget - (f + 1)) t r' m' (f + 1)
-    unfolding finish exitOf
-    run-on t z = block-more ∙ rw (z, add-one f) (carried-free (budget - suc f) t (suc f) (suc n) r' m')
+    pub run-on : (t : ℕ) → Leads x b t → rest (budget - f) b r m f ≡ rest (budget - (f + 1)) t r' m' (f + 1)
+    unfolding finish
+    run-on t z = block-more ∙ rw (enters x (at b j r' m' f n) t z, add-one f) (carried-free (budget - suc f) t (suc f) (suc n) r' m')
 
     pub run-halts : (i : ℕ) → i ≡ P .start b + j → x ≡ Halted → ran 0 b i (f + 1) r' m' ≡ rest (budget - f) b r m f
     unfolding finish exitOf answerOf

@@ -92,7 +92,8 @@ fn answer(number: u32, block: u32, index: u32, finished: u64, registers: [u32; 8
     }
 }
 
-// A budget of blocks, from the first instruction of a block that exists; starts has where each block starts.
+// A budget of blocks, from the first instruction of a block that exists; starts has where each block starts. The block after another
+// starts where that ends: taken from there, a test of data stays a branch, and the next block does not wait for it.
 fn run_blocks(
     blocks: &[u32],
     code: &[u32],
@@ -110,12 +111,11 @@ fn run_blocks(
     let rows = instruction::opcode_rows();
     let count = (blocks.len() / table::ROW_WORDS) as u32;
     let mut b = block;
+    let mut first = starts[block as usize] as usize;
     let mut current = registers;
     let mut finished = 0;
     while finished < budget {
-        let k = b as usize;
-        let first = starts[k] as usize;
-        let end = starts[k + 1] as usize;
+        let end = starts[b as usize + 1] as usize;
         let room = code.len() - first;
         let e = run_block(
             &rows,
@@ -131,6 +131,11 @@ fn run_blocks(
         match exit {
             Exit::To(t) => {
                 b = t;
+                first = starts[t as usize] as usize;
+            }
+            Exit::Following => {
+                b += 1;
+                first = end;
             }
             Exit::Halted => {
                 return answer(HALTED, b, index, finished + 1, current);
@@ -141,7 +146,7 @@ fn run_blocks(
         }
         finished += 1;
     }
-    answer(PAUSED, b, starts[b as usize], finished, current)
+    answer(PAUSED, b, first as u32, finished, current)
 }
 
 // A run refused before its first instruction.

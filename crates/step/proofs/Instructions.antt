@@ -3,8 +3,7 @@ use mathlib.Core.Path.{_≡_, refl, sym, _∙_}
 use mathlib.Core.Logic.{_⊎_, inl, inr}
 use mathlib.Core.Bool.{Bool, true, false}
 use mathlib.Core.List.{List}
-use Prim.Native.Nat.{ℕ, suc, _+_, _/_, _%_, _<_, _≤_}
-use native.Mathlib.Numerals.{add-one}
+use Prim.Native.Nat.{ℕ, suc, _/_, _%_, _<_, _≤_}
 use native.Mathlib.Omega.{arith}
 use lib.Dec.{ltb, eqb}
 use lib.ListN.{length, getD, set}
@@ -12,14 +11,17 @@ use borrow.Author.Tests.{lt-ltb, le-ltb, ltb-true, eq-eqb, ne-eqb}
 use Rattle.model.specs.Question.{pick, questionOf}
 use Rattle.model.specs.Word.{opcodeOf, aOf, bOf, cOf, sum, difference, product, signed, moved}
 use Rattle.model.specs.Table.{Routine}
-use Rattle.model.specs.Machine.{Plain, constant, copy, add, subtract, multiply, divide, move, load, store, End, halt, jump, ifEqual, ifLess, Instruction, plain, end, malformed, decode, hasForm, formed, wellFormed, put, reg, effect, addressed, registersAfter, memoryAfter, next, targetsExist, State, Step, need, leave, perform}
+use Rattle.model.specs.Machine.{Plain, constant, copy, add, subtract, multiply, divide, move, load, store, End, halt, jump, ifEqual, ifLess}
+use Rattle.model.specs.Machine.{Instruction, plain, end, malformed, decode, hasForm, formed, wellFormed, put, reg, effect, addressed, registersAfter}
+use Rattle.model.specs.Machine.{memoryAfter, next, targetsExist, State, Step, need, leave, perform}
 use Rattle.model.proofs.Logic.{byTest, byEqual, byLess}
 use Rattle.model.proofs.Lists.{set-same}
 use Rattle.instruction.specs.Form.{leadsOn, formNo}
-use Rattle.instruction.proofs.Forms.{row-0, row-1, row-2, row-3, row-4, row-5, row-6, row-7, row-8, row-9, row-10, row-11, row-12, decoded, registers, known}
+use Rattle.instruction.proofs.Forms.{row-0, row-1, row-2, row-3, row-4, row-5, row-6, row-7, row-8, row-9, row-10, row-11, row-12, decoded}
+use Rattle.instruction.proofs.Forms.{registers, known}
 use Rattle.instruction.proofs.Laws.{at-arithmetic, at-6, plain-word, end-word}
 use Rattle.step.specs.declared.Effect.{Effect}
-use Rattle.step.specs.declared.Exit.the-variants.{To, Halted, No}
+use Rattle.step.specs.declared.Exit.the-variants.{To, Following, Halted, No}
 use Rattle.step.specs.Answer.{at, stepOf, past, valueOf, onRegister, onMemory, putting, does, exitOf}
 
 -- ---- the effect of an instruction inside a block
@@ -48,7 +50,9 @@ Inside w = (wellFormed w ≡ true) × (0 < opcodeOf w) × (opcodeOf w < 10)
 pub inside-word : (w n : ℕ) → n ≡ formNo (decode w) false 0 0 → n ≡ 0 → Inside w
 inside-word w n e z =
     let p = sym e ∙ z in
-    (formed-word w p, byEqual (opcodeOf w) 0 (λ o. absurd (not-end w p (inl o))) (λ o. omega arith), byLess (opcodeOf w) 10 (λ o. o) (λ o. absurd (not-end w p (inr o))))
+    let l : 0 < opcodeOf w = byEqual (opcodeOf w) 0 (λ o. absurd (not-end w p (inl o))) (λ o. omega arith) in
+    let h : opcodeOf w < 10 = byLess (opcodeOf w) 10 (λ o. o) (λ o. absurd (not-end w p (inr o))) in
+    (formed-word w p, l, h)
 
 -- an opcode that is neither a load nor a store
 pub fewer : (w : ℕ) → Inside w → (opcodeOf w ≡ 8 → ⊥) → (opcodeOf w ≡ 9 → ⊥) → opcodeOf w < 8
@@ -86,7 +90,8 @@ module _ (P : Routine) (b j f n : ℕ) (r m : List ℕ) (d : suc j ≡ P .long b
       go (end x) e = rw (e, ne-eqb (suc j) (P .long b) d)
 
   module _ (q : wellFormed w ≡ true) (a : ℕ) (ea : a ≡ aOf w) where
-    puts : (x : Plain) (t : Bool) (v : ℕ) → decode w ≡ formed t (plain x) → put (aOf w) v ≡ effect x r → does (onRegister 0 a v) here ≡ perform P (decode w) here
+    puts : (x : Plain) (t : Bool) (v : ℕ) → decode w ≡ formed t (plain x) → put (aOf w) v ≡ effect x r
+        → does (onRegister 0 a v) here ≡ perform P (decode w) here
     unfolding does stepOf perform need addressed registersAfter memoryAfter
     puts x t v e p = rw (ea, decoded w t (plain x) refl e q, ne-eqb (suc j) (P .long b) d, ← p)
 
@@ -224,17 +229,20 @@ module _ (P : Routine) (b j f n : ℕ) (r m : List ℕ) (w count : ℕ) (ec : P 
       module _ (x : ℕ) (ex : x ≡ aOf w) where
         pub equal-taken : opcodeOf w ≡ 11 → reg r x ≡ c / 256 → exitOf (To (c % 256)) there ≡ perform P (decode w) there
         unfolding exitOf next leave
-        equal-taken o h = rw ew (rw (eq-eqb (reg r (aOf w)) (cOf w / 256) (rw (ex, ew) at h)) at (by-end (ifEqual (aOf w) (cOf w / 256) (cOf w % 256)) _ (row-11 w o)))
+        equal-taken o h =
+            rw ew
+            (rw (eq-eqb (reg r (aOf w)) (cOf w / 256) (rw (ex, ew) at h)) at (by-end (ifEqual (aOf w) (cOf w / 256) (cOf w % 256)) _ (row-11 w o)))
 
-        pub equal-left : opcodeOf w ≡ 11 → (reg r x ≡ c / 256 → ⊥) → exitOf (To (b + 1)) there ≡ perform P (decode w) there
+        pub equal-left : opcodeOf w ≡ 11 → (reg r x ≡ c / 256 → ⊥) → exitOf Following there ≡ perform P (decode w) there
         unfolding exitOf next leave
-        equal-left o h = rw (add-one b) (rw (ne-eqb (reg r (aOf w)) (cOf w / 256) (rw (ex, ew) at h)) at (by-end (ifEqual (aOf w) (cOf w / 256) (cOf w % 256)) _ (row-11 w o)))
+        equal-left o h =
+            rw (ne-eqb (reg r (aOf w)) (cOf w / 256) (rw (ex, ew) at h)) at (by-end (ifEqual (aOf w) (cOf w / 256) (cOf w % 256)) _ (row-11 w o))
 
         module _ (y : ℕ) (ey : y ≡ bOf w) where
           pub less-taken : opcodeOf w ≡ 12 → ltb (reg r x) (reg r y) ≡ true → exitOf (To c) there ≡ perform P (decode w) there
           unfolding exitOf next leave
           less-taken o h = rw ew (rw (rw (ex, ey) at h) at (by-end (ifLess (aOf w) (bOf w) (cOf w)) _ (row-12 w o)))
 
-          pub less-left : opcodeOf w ≡ 12 → ltb (reg r x) (reg r y) ≡ false → exitOf (To (b + 1)) there ≡ perform P (decode w) there
+          pub less-left : opcodeOf w ≡ 12 → ltb (reg r x) (reg r y) ≡ false → exitOf Following there ≡ perform P (decode w) there
           unfolding exitOf next leave
-          less-left o h = rw (add-one b) (rw (rw (ex, ey) at h) at (by-end (ifLess (aOf w) (bOf w) (cOf w)) _ (row-12 w o)))
+          less-left o h = rw (rw (ex, ey) at h) at (by-end (ifLess (aOf w) (bOf w) (cOf w)) _ (row-12 w o))

@@ -8,7 +8,7 @@ use Rattle.model.specs.Word.{sum, difference, product, signed, moved}
 use Rattle.model.specs.Machine.{read, write, State, Step, goes, halts, faults, need, after, atHalt, entering}
 use Rattle.step.specs.declared.Effect.{Effect}
 use Rattle.step.specs.declared.Exit.{Exit}
-use Rattle.step.specs.declared.Exit.the-variants.{To, Halted, No}
+use Rattle.step.specs.declared.Exit.the-variants.{To, Following, Halted, No}
 
 -- block, offset, registers, memory, blocks finished, instructions carried out
 abbrev pub at : ℕ → ℕ → List ℕ → List ℕ → ℕ → ℕ → State
@@ -49,5 +49,6 @@ does e s =
 -- the end of a block whose run came to the state s
 unfoldable pub exitOf : Exit → State → Step
 exitOf (To t) s = goes (entering s t)
+exitOf Following s = goes (entering s (suc (s .block)))
 exitOf Halted s = halts (atHalt s)
 exitOf (No n) s = faults (questionOf n) s

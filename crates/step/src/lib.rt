@@ -1,7 +1,7 @@
 // One instruction of a run: its questions, then its effect on registers and memory, or the exit that a block's last takes.
 ghost use mathlib.Core.Path.{_≡_};
 ghost use mathlib.Core.List.{List};
-ghost use Prim.Native.Nat.{ℕ, suc, _+_, _<_};
+ghost use Prim.Native.Nat.{ℕ, suc, _<_};
 ghost use lib.Dec.{ltb};
 ghost use lib.ListN.{set};
 ghost use Rattle.model.specs.Question.{pick};
@@ -11,9 +11,10 @@ ghost use Rattle.model.specs.Machine.{decode, reg, perform};
 ghost use Rattle.instruction.specs.Rows.{opcodeRows};
 ghost use Rattle.step.specs.Answer.{at, valueOf, onRegister, onMemory, does, stepOf, past, exitOf};
 
-// How a block is left: to a block, by a halt, or with the number of a question that had a no.
+// How a block is left: to a block, to the one after it, by a halt, or with the number of a question that had a no.
 pub enum Exit {
     To(u32),
+    Following,
     Halted,
     No(u32),
 }
@@ -236,14 +237,6 @@ fn less(x: u32, y: u32) -> bool
     x < y
 }
 
-// The block after b, where an untaken branch leads.
-fn following(b: u32) -> u32
-    requires { ⌜ b < 4294967295 ⌝ }
-    ensures { λ r. ⌜ r ≡ b + 1 ⌝ }
-{
-    b + 1
-}
-
 // Which exit the block's last instruction takes. It leaves registers and memory as they are.
 pub fn leave(rows: &[u32; 13], registers: &[u32; 8], w: u32, b: u32, count: u32) -> Exit
     requires { ⌜ (now rows ≡ opcodeRows) × (b < 4294967295) ⌝ }
@@ -267,11 +260,11 @@ pub fn leave(rows: &[u32; 13], registers: &[u32; 8], w: u32, b: u32, count: u32)
         if x == c / 256 {
             return Exit::To(c % 256);
         }
-        return Exit::To(following(b));
+        return Exit::Following;
     }
     // If less: no other opcode is left.
     if less(x, registers[word::b(w)]) {
         return Exit::To(c);
     }
-    Exit::To(following(b))
+    Exit::Following
 }

@@ -7,7 +7,8 @@ use native.Mathlib.Omega.{arith}
 use Rattle.model.specs.Question.{Question, questionOf, Refusal}
 use Rattle.model.specs.Word.{opcodeOf, aOf, bOf, cOf}
 use Rattle.model.specs.Table.{Tables}
-use Rattle.model.specs.Machine.{constant, copy, add, subtract, multiply, divide, move, load, store, Instruction, plain, end, malformed, decode, wellFormed}
+use Rattle.model.specs.Machine.{constant, copy, add, subtract, multiply, divide, move, load, store, Instruction, plain, end, malformed, decode}
+use Rattle.model.specs.Machine.{wellFormed}
 use Rattle.model.specs.Reading.{Reading}
 use Rattle.model.specs.Check.{readPlain}
 use Rattle.model.proofs.Logic.{byTest, byEqual, byLess}

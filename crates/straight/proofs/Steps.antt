@@ -1,28 +1,28 @@
 -- Laws of one instruction before a block's end: names and type words, opcode 7, loads and stores.
 use mathlib.Core.Path.{_≡_, refl, sym, ap, _∙_}
 use mathlib.Core.Bool.{Bool, true, false, not}
-use mathlib.Core.List.{List, [], _∷_, map}
-use Prim.Native.Nat.{ℕ, zero, suc, _+_, _-_, _*_, _/_, _%_, _^_, _<_, _≤_}
+use mathlib.Core.List.{List, [], _∷_}
+use Prim.Native.Nat.{ℕ, zero, suc, _+_, _-_, _*_, _%_, _<_, _≤_}
 use native.Mathlib.Numerals.{add-one}
 use native.Mathlib.Omega.{arith}
-use lib.Dec.{ltb, leb, eqb}
+use lib.Dec.{ltb, eqb}
 use lib.ListN.{length, getD, set, take, drop, drop-of-length-le, length-drop}
 use lib.Seq.{drop-cons, take-all}
-use borrow.Author.Tests.{lt-ltb, le-ltb, le-leb, lt-leb, eq-eqb, ne-eqb}
-use Rattle.model.specs.declared.Reference.{Reference}
+use borrow.Author.Tests.{lt-ltb, le-ltb, eq-eqb, ne-eqb}
 use Rattle.model.specs.declared.Reference.the-variants.{To, Nothing}
-use Rattle.model.specs.Question.{_and_, _or_, pick, Question, questionOf, q10, q11, q12, Refusal, Outcome, ok, refused, ask}
+use Rattle.model.specs.Question.{_and_, _or_, Question, questionOf, Refusal, ask}
 use Rattle.model.specs.Word.{kindOf, recordOf, opcodeOf, aOf, bOf, cOf}
-use Rattle.model.specs.Types.{typeOf, rename}
+use Rattle.model.specs.Types.{typeOf}
 use Rattle.model.specs.Table.{Tables, tablesOf, headOf, wordsOf, rowOf}
-use Rattle.model.specs.Machine.{Plain, constant, copy, add, subtract, multiply, divide, move, load, store}
-use Rattle.model.specs.Reading.{Values, birthplace, typed, referenceOf, rowFits, Reading, laidAt, zeros, upFrom, born, putRegister, fresh, withKind, steady, moves, movedWord, noBase, isOpen, seen, viewed, viewedBefore, look, loaded, stored}
+use Rattle.model.specs.Machine.{constant, copy, move, load, store}
+use Rattle.model.specs.Reading.{birthplace, rowFits, Reading, laidAt, upFrom, born, putRegister, fresh, withKind, steady, moves, movedWord, noBase}
+use Rattle.model.specs.Reading.{viewed, look, loaded, stored}
 use Rattle.model.specs.Check.{valueIn, withReference, referenceIn, mayTouch, onRecord, readPlain}
-use Rattle.model.proofs.Logic.{byTest, byEqual, byLess}
+use Rattle.model.proofs.Logic.{byEqual, byLess}
 use Rattle.model.proofs.Lists.{map-set, getD-past, upFrom-at, length-upFrom}
 use Rattle.table.proofs.Laws.{row-length, words-length, head-at, tables-size, tables-words}
-use Rattle.fits.specs.Numbers.{frameOf, framesOf, valuesOf}
-use Rattle.fits.proofs.Numbers.{frames-at, frames-set, byKind, type-any, type-ref, type-maybe, type-tagged, type-present, type-same, type-span}
+use Rattle.fits.specs.Numbers.{frameOf, valuesOf}
+use Rattle.fits.proofs.Numbers.{frames-set, byKind}
 use Rattle.straight.specs.State.{viewOf, viewsOf, reading, numbered, plainOf, loadAsk, storeAsk, touched}
 
 -- ---- names and type words

@@ -1,25 +1,26 @@
 -- Laws of a block read to its end, of all blocks, and of the check.
 use mathlib.Core.Path.{_≡_, refl, sym, ap, _∙_}
-use mathlib.Core.Bool.{Bool, true, false, not}
-use mathlib.Core.List.{List, [], _∷_, map}
-use Prim.Native.Nat.{ℕ, zero, suc, _+_, _-_, _*_, _%_, _<_, _≤_}
+use mathlib.Core.Bool.{true, false}
+use mathlib.Core.List.{List, [], _∷_}
+use Prim.Native.Nat.{ℕ, zero, suc, _+_, _-_, _%_, _<_, _≤_}
 use native.Mathlib.Numerals.{add-one}
 use native.Mathlib.Nat.{sub-zero, add-sub-cancel-left}
 use native.Mathlib.Omega.{arith}
-use lib.ListN.{length, getD, set, take, drop, replicate, length-take, length-drop, length-set}
+use lib.ListN.{length, getD, take, drop, replicate, length-take, length-drop, length-set}
 use borrow.Author.Tests.{eq-eqb, ne-eqb}
 use Rattle.model.specs.declared.Verdict.{Verdict}
-use Rattle.model.specs.declared.Reference.{Reference}
-use Rattle.model.specs.Question.{Question, questionOf, Refusal, refusal, Outcome, ok, refused, ask, then, firstNo, passed, refusing, verdictOf}
-use Rattle.model.specs.Table.{Tables, tablesOf, Routine, routineOf, rows, headOf, wordsOf, startOf, typeLengthsAsk, codeLengthsAsk, typesAsk, lengthsAsk, annotationsAsk}
-use Rattle.model.specs.Machine.{Plain, constant, copy, add, subtract, multiply, divide, move, load, store, End, Instruction, plain, end, malformed, decode, targetsExist}
-use Rattle.model.specs.Reading.{Values, Reading, isOpen, seen, laidAt, zeros, upFrom, entry, fresh, viewed, viewedBefore, look, loaded, stored}
-use Rattle.model.specs.Check.{valueIn, onRecord, readPlain, readEdges, noAt, lastAt, readInstruction, readAt, readOn, blockAsk, judge, checkAsk, check}
-use Rattle.model.proofs.Logic.{byTest, byEqual, byLess, pick-both, number-of, ok-same, not-ok}
+use Rattle.model.specs.Question.{Question, questionOf, Refusal, refusal, Outcome, ok, refused, ask, then, firstNo, verdictOf}
+use Rattle.model.specs.Table.{Tables, tablesOf, Routine, routineOf, rows, headOf, wordsOf, startOf, typeLengthsAsk, codeLengthsAsk, typesAsk}
+use Rattle.model.specs.Table.{lengthsAsk, annotationsAsk}
+use Rattle.model.specs.Machine.{Plain, constant, copy, add, subtract, multiply, divide, move, load, store, Instruction, plain, end, malformed}
+use Rattle.model.specs.Machine.{decode, targetsExist}
+use Rattle.model.specs.Reading.{Reading, isOpen, seen, laidAt, zeros, upFrom, entry, fresh, viewed, look, loaded, stored}
+use Rattle.model.specs.Check.{valueIn, readPlain, readEdges, noAt, lastAt, readInstruction, readAt, readOn, blockAsk, judge, checkAsk, check}
+use Rattle.model.proofs.Logic.{byTest, byLess, pick-both, number-of, ok-same, not-ok}
 use Rattle.model.proofs.Lists.{length-upFrom}
 use Rattle.model.proofs.Inversion.{record-ok}
 use Rattle.table.proofs.Questions.{left, no-refusal, then-on, then-stops, first-on}
-use Rattle.fits.specs.Numbers.{framesOf, valuesOf}
+use Rattle.fits.specs.Numbers.{framesOf}
 use Rattle.straight.specs.State.{viewsOf, reading, numbered, earlyAsk}
 use Rattle.straight.proofs.Steps.{size-past}
 use Rattle.branch.specs.End.{lastAsk}

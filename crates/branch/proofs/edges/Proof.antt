@@ -5,7 +5,8 @@ use denote.Ref.{now}
 use borrow.Author.Needs.{needs}
 use native.Mathlib.Numerals.{add-one}
 use borrow.Author.Tests.{not-true, not-false}
-use Rattle.branch.proofs.Ends.{end-halt, end-jump, end-equal, end-less, edges-as, edges-halt, jump-no, jump-yes, jump-row, equal-rows, less-rows}
+use Rattle.branch.proofs.Ends.{end-halt, end-jump, end-equal, end-less, edges-as, edges-halt, jump-no, jump-yes, jump-row, equal-rows}
+use Rattle.branch.proofs.Ends.{less-rows}
 use Rattle.branch.proofs.edges.Statement.{statement}
 use Rattle.branch.proofs.edges.Tie as tie
 

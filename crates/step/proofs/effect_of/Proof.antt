@@ -1,6 +1,6 @@
 -- `step::effect_of` meets its contract: a law for each return.
 use mathlib.Core.Path.{_≡_, refl, sym, _∙_}
-use Prim.Native.Nat.{ℕ, _%_, _<_}
+use Prim.Native.Nat.{ℕ, _%_}
 use native.Mathlib.Omega.{arith}
 use Rattle.model.specs.Word.{opcodeOf, aOf, bOf, cOf}
 use Rattle.instruction.proofs.Forms.{registers}
@@ -151,9 +151,10 @@ returns-5 c =
     let o = p .opcode-is in
     let n8 = t .before .before .if2 .left in
     let n9 = t .before .if3 .left in
+    let few = fewer _ (p .formed) (λ e. n8 (o ∙ e)) (λ e. n9 (o ∙ e)) in
     rw (c .put3 .ensures) (
       λ P b j f n m d.
-          values P b j f n _ m d _ (p .formed .0) _ (p .a-is) _ (p .c-is) _ _ (p .b-is) refl _ refl (p .formed .1) (fewer _ (p .formed) (λ e. n8 (o ∙ e)) (λ e. n9 (o ∙ e)))
+          values P b j f n _ m d _ (p .formed .0) _ (p .a-is) _ (p .c-is) _ _ (p .b-is) refl _ refl (p .formed .1) few
           (λ e. t .if4 .left (o ∙ e)) _ _ o (c .before .value .ensures),
       omega arith,
     )

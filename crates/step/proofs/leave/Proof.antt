@@ -4,7 +4,8 @@ use Prim.Native.Nat.{_<_, _≤_}
 use native.Mathlib.Omega.{arith}
 use Rattle.model.specs.Word.{opcodeOf, aOf, cOf}
 use Rattle.instruction.proofs.Forms.{registers}
-use Rattle.step.proofs.Instructions.{Ending, ending-word, form-refuses-last, halts-here, jumps-to, equal-taken, equal-left, less-taken, less-left}
+use Rattle.step.proofs.Instructions.{Ending, ending-word, form-refuses-last, halts-here, jumps-to, equal-taken, equal-left, less-taken}
+use Rattle.step.proofs.Instructions.{less-left}
 use borrow.Author.Needs.{needs}
 use Rattle.step.proofs.leave.Statement.{statement}
 use Rattle.step.proofs.leave.Tie as tie
@@ -90,16 +91,11 @@ returns-4 c =
     let p = branch (t .before) in
     λ P j f n m ec d. equal-taken P _ j f n _ m _ _ ec d (p .formed) _ (p .c-is) _ (p .a-is) (sym (p .opcode-is) ∙ t .if4 .taken) (c .if5 .taken)
 
-following-requires : tie.Need-following-requires
-following-requires c κs = search needs
-
 returns-5 : tie.Need-returns-5
 returns-5 c =
-    let e = c .before in
-    let t = e .before in
+    let t = c .before in
     let p = branch (t .before) in
-    rw (c .following .ensures)
-    (λ P j f n m ec d. equal-left P _ j f n _ m _ _ ec d (p .formed) _ (p .c-is) _ (p .a-is) (sym (p .opcode-is) ∙ t .if4 .taken) (e .if5 .left))
+    λ P j f n m ec d. equal-left P _ j f n _ m _ _ ec d (p .formed) _ (p .c-is) _ (p .a-is) (sym (p .opcode-is) ∙ t .if4 .taken) (c .if5 .left)
 
 b-requires : tie.Need-b-requires
 b-requires c κs = tt
@@ -124,17 +120,12 @@ returns-6 c =
     let l = sym (c .before .less .ensures) ∙ c .if6 .taken in
     λ P j f n m ec d. less-taken P _ j f n _ m _ _ ec d (p .formed) _ (p .c-is) _ (p .a-is) _ (y .b .ensures .0) (is-less y) l
 
-following-requires-2 : tie.Need-following-requires-2
-following-requires-2 c κs = search needs
-
 returns-7 : tie.Need-returns-7
 returns-7 c =
-    let e = c .before in
-    let y = e .before .before .before in
+    let y = c .before .before .before in
     let p = branch (y .before .before) in
-    let l = sym (e .before .less .ensures) ∙ e .if6 .left in
-    rw (c .following2 .ensures)
-    (λ P j f n m ec d. less-left P _ j f n _ m _ _ ec d (p .formed) _ (p .c-is) _ (p .a-is) _ (y .b .ensures .0) (is-less y) l)
+    let l = sym (c .before .less .ensures) ∙ c .if6 .left in
+    λ P j f n m ec d. less-left P _ j f n _ m _ _ ec d (p .formed) _ (p .c-is) _ (p .a-is) _ (y .b .ensures .0) (is-less y) l
 
 pub leave-spec : {M : Type 1} → statement M
 leave-spec =
@@ -150,12 +141,10 @@ leave-spec =
     mul-x
     element-copy-out-x
     returns-4
-    following-requires
     returns-5
     b-requires
     mul-less
     element-copy-out-less
     less-requires
     returns-6
-    following-requires-2
     returns-7)

@@ -1,6 +1,5 @@
 -- `straight::early` meets its contract: Q7 and Q8, then the instruction.
 use mathlib.Core.Path.{_≡_, ap, _∙_}
-use Prim.Native.Nat.{_<_, _≤_}
 use native.Mathlib.Omega.{arith}
 use borrow.Author.Needs.{needs}
 use Rattle.straight.specs.declared.Progress.{Progress}

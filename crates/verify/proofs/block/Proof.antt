@@ -12,7 +12,8 @@ use Rattle.model.specs.Reading.{laidAt}
 use Rattle.model.specs.Check.{readOn, blockAsk}
 use Rattle.straight.specs.State.{reading}
 use Rattle.straight.proofs.Steps.{part-is, part-length, row-words}
-use Rattle.verify.proofs.Blocks.{verdict, read-on, read-stops, read-ends, read-refuses, eight-early, block-begins, long-is, part-of, at-start, part-long}
+use Rattle.verify.proofs.Blocks.{verdict, read-on, read-stops, read-ends, read-refuses, eight-early, block-begins, long-is, part-of, at-start}
+use Rattle.verify.proofs.Blocks.{part-long}
 use borrow.Author.Needs.{needs}
 use Rattle.verify.proofs.block.Statement.{statement}
 use Rattle.verify.proofs.block.Tie as tie

@@ -1,5 +1,4 @@
 -- `word::signed` meets its contract.
-use native.Mathlib.Omega.{arith}
 use borrow.Author.Needs.{needs}
 use Rattle.word.proofs.Signs.{signed-fits, signed-is}
 use Rattle.word.proofs.signed.Statement.{statement}
