@@ -1,15 +1,34 @@
 -- The last instruction of a block: the end that a well-formed word is, and its questions.
-use mathlib.Core.List.{[], _∷_}
+use mathlib.Core.List.{List, [], _∷_}
 use Prim.Native.Nat.{ℕ, suc, _-_, _/_, _%_}
 use mathlib.Core.Bool.{not}
 use lib.Dec.{eqb}
-use lib.ListN.{getD}
+use lib.ListN.{getD, set}
+use denote.Ref.{now}
 use Rattle.model.specs.Question.{pick, Question, q7, q8, q9, q13, Refusal, Outcome, refused, ask}
 use Rattle.model.specs.Word.{opcodeOf, aOf, bOf, cOf}
-use Rattle.model.specs.Table.{Tables, Routine}
+use Rattle.model.specs.Table.{Tables, Routine, routineOf}
 use Rattle.model.specs.Machine.{End, halt, jump, ifEqual, ifLess, Instruction, plain, end, malformed, targetsExist}
-use Rattle.model.specs.Reading.{Reading, isOpen}
+use Rattle.model.specs.Reading.{Values, typed, Reading, notZero, isOpen}
 use Rattle.model.specs.Check.{readEdges}
+use Rattle.fits.specs.Numbers.{valuesOf, Lent}
+use Rattle.straight.specs.State.{reading}
+
+-- the routine whose blocks are lent, and the reading that the lent arrays make
+abbrev pub routineIn : Lent → List ℕ → Routine
+routineIn blocks code = routineOf (now (blocks .entry)) code
+
+abbrev pub readingIn : Lent → Lent → Lent → Lent → List ℕ → List ℕ → ℕ → ℕ → Reading
+readingIn registers words frames constants views fields since base =
+    reading (now (registers .entry)) (now (words .entry)) (now (frames .entry)) (now (constants .entry)) views fields since base
+
+-- the values with the type word r for v
+abbrev pub retyped : List ℕ → List ℕ → List ℕ → ℕ → ℕ → Values
+retyped words frames constants v r = valuesOf (set words v r) frames constants 0 0
+
+-- past an untaken opcode 11 with the constant k
+abbrev pub pastZero : Values → ℕ → ℕ → Values
+pastZero vs v k = pick (eqb k 0) (notZero vs v (typed vs v)) vs
 
 -- a well-formed word with opcode 0, 10, 11 or 12
 unfoldable pub endOf : ℕ → End

@@ -2,19 +2,18 @@
 ghost use mathlib.Core.Path.{_≡_};
 ghost use mathlib.Core.List.{List};
 ghost use Prim.Native.Nat.{ℕ, suc, _+_, _*_, _≤_, _<_};
-ghost use lib.ListN.{length, set};
-ghost use lib.Dec.{eqb};
+ghost use lib.ListN.{length};
 ghost use mathlib.Core.Bool.{true};
-ghost use Rattle.model.specs.Question.{pick, Question, Refusal};
+ghost use Rattle.model.specs.Question.{Question, Refusal};
 ghost use Rattle.model.specs.Word.{opcodeOf, aOf, bOf};
-ghost use Rattle.model.specs.Table.{rows, tablesOf, routineOf, wordsOf};
+ghost use Rattle.model.specs.Table.{rows, wordsOf};
 ghost use Rattle.model.specs.Machine.{decode, targetsExist, ifEqual, ifLess};
-ghost use Rattle.model.specs.Reading.{typed, rowFits, notZero, below, notBelow};
+ghost use Rattle.model.specs.Reading.{typed, rowFits, below, notBelow};
 ghost use Rattle.model.specs.Check.{readEdges};
 ghost use Rattle.instruction.specs.Rows.{opcodeRows};
-ghost use Rattle.fits.specs.Numbers.{valuesOf};
-ghost use Rattle.straight.specs.State.{reading, numbered};
-ghost use Rattle.branch.specs.End.{endOf, lastAsk};
+ghost use Rattle.fits.specs.Numbers.{valuesOf, tablesIn, valuesIn};
+ghost use Rattle.straight.specs.State.{numbered};
+ghost use Rattle.branch.specs.End.{routineIn, readingIn, retyped, pastZero, endOf, lastAsk};
 use straight::NO_BASE;
 
 // Numbers of the questions asked of code.
@@ -29,9 +28,7 @@ const UNTAKEN: u32 = 15;
 // The type word of v past an untaken opcode 11 with the constant k: past 0, Maybe is Ref and Tagged is Present.
 fn not_zero(words: &[u32; 256], v: u8, k: u32) -> u32
     ensures { λ r. ⌜ ((frames constants : List ℕ)
-        → valuesOf (set (now (words .entry)) v r) frames constants 0 0
-        ≡ pick (eqb k 0) (notZero (valuesOf (now (words .entry)) frames constants 0 0) v (typed (valuesOf (now (words .entry)) frames constants 0 0) v))
-        (valuesOf (now (words .entry)) frames constants 0 0)) ⌝ }
+        → retyped (now (words .entry)) frames constants v r ≡ pastZero (valuesOf (now (words .entry)) frames constants 0 0) v k) ⌝ }
 {
     let w = words[v as usize];
     if k != 0 {
@@ -50,7 +47,8 @@ fn not_zero(words: &[u32; 256], v: u8, k: u32) -> u32
 // The type word of v past a taken opcode 12: From with u known equal to its end is In.
 fn below(words: &[u32; 256], frames: &[u8; 32], constants: &[u32; 32], v: u8, u: u32) -> u32
     requires { ⌜ u < 256 ⌝ }
-    ensures { λ r. ⌜ valuesOf (set (now (words .entry)) v r) (now (frames .entry)) (now (constants .entry)) 0 0 ≡ below (valuesOf (now (words .entry)) (now (frames .entry)) (now (constants .entry)) 0 0) v u (typed (valuesOf (now (words .entry)) (now (frames .entry)) (now (constants .entry)) 0 0) v) ⌝ }
+    ensures { λ r. ⌜ retyped (now (words .entry)) (now (frames .entry)) (now (constants .entry)) v r
+        ≡ below (valuesIn words frames constants 0 0) v u (typed (valuesIn words frames constants 0 0) v) ⌝ }
 {
     let w = words[v as usize];
     if word::kind(w) != word::FROM {
@@ -66,7 +64,8 @@ fn below(words: &[u32; 256], frames: &[u8; 32], constants: &[u32; 32], v: u8, u:
 // The type word of v past an untaken opcode 12: Run with u known equal to its start is From.
 fn not_below(words: &[u32; 256], frames: &[u8; 32], constants: &[u32; 32], v: u8, u: u32) -> u32
     requires { ⌜ u < 256 ⌝ }
-    ensures { λ r. ⌜ valuesOf (set (now (words .entry)) v r) (now (frames .entry)) (now (constants .entry)) 0 0 ≡ notBelow (valuesOf (now (words .entry)) (now (frames .entry)) (now (constants .entry)) 0 0) v u (typed (valuesOf (now (words .entry)) (now (frames .entry)) (now (constants .entry)) 0 0) v) ⌝ }
+    ensures { λ r. ⌜ retyped (now (words .entry)) (now (frames .entry)) (now (constants .entry)) v r
+        ≡ notBelow (valuesIn words frames constants 0 0) v u (typed (valuesIn words frames constants 0 0) v) ⌝ }
 {
     let w = words[v as usize];
     if word::kind(w) != word::RUN {
@@ -95,7 +94,7 @@ fn edge(
 ) -> bool
     requires { ⌜ t * 9 + 9 ≤ length (now blocks) ⌝ }
     ensures { λ r. ⌜ ((types : List ℕ)
-        → r ≡ rowFits (tablesOf types (now (tags .entry))) (valuesOf (now (words .entry)) (now (frames .entry)) (now (constants .entry)) tested equal)
+        → r ≡ rowFits (tablesIn types tags) (valuesIn words frames constants tested equal)
         8 (wordsOf (now (blocks .entry)) t) (now (registers .entry))) ⌝ }
 {
     let own = table::row(blocks, t);
@@ -128,8 +127,8 @@ fn equal_edges(
 ) -> u32
     requires { ⌜ (a < 8) × (k < 256) × (t * 9 + 9 ≤ length (now blocks)) × (next * 9 + 9 ≤ length (now blocks)) ⌝ }
     ensures { λ r. ⌜ ((place : Question → Refusal) (types code views fields : List ℕ) (since base : ℕ)
-        → numbered place r tt ≡ readEdges (tablesOf types (now (tags .entry))) (routineOf (now (blocks .entry)) code) place next (ifEqual a k t)
-        (reading (now (registers .entry)) (now (words .entry)) (now (frames .entry)) (now (constants .entry)) views fields since base))
+        → numbered place r tt ≡ readEdges (tablesIn types tags) (routineIn blocks code) place next (ifEqual a k t)
+        (readingIn registers words frames constants views fields since base))
         × (r ≤ 15) ⌝ }
 {
     let v = registers[a];
@@ -179,8 +178,8 @@ fn less_edges(
 ) -> u32
     requires { ⌜ (a < 8) × (b < 8) × (t * 9 + 9 ≤ length (now blocks)) × (next * 9 + 9 ≤ length (now blocks)) ⌝ }
     ensures { λ r. ⌜ ((place : Question → Refusal) (types code views fields : List ℕ) (since base : ℕ)
-        → numbered place r tt ≡ readEdges (tablesOf types (now (tags .entry))) (routineOf (now (blocks .entry)) code) place next (ifLess a b t)
-        (reading (now (registers .entry)) (now (words .entry)) (now (frames .entry)) (now (constants .entry)) views fields since base))
+        → numbered place r tt ≡ readEdges (tablesIn types tags) (routineIn blocks code) place next (ifLess a b t)
+        (readingIn registers words frames constants views fields since base))
         × (r ≤ 15) ⌝ }
 {
     let v = registers[a];
@@ -223,8 +222,8 @@ fn edges(
     requires { ⌜ (aOf word < 8) × (bOf word < 8) × (opcodeOf word ≤ 12) × (0 < opcodeOf word → 9 < opcodeOf word) × (b < 256)
         × (targetsExist (rows (now blocks)) b (endOf word) ≡ true) ⌝ }
     ensures { λ r. ⌜ ((place : Question → Refusal) (types code views fields : List ℕ) (since base : ℕ)
-        → numbered place r tt ≡ readEdges (tablesOf types (now (tags .entry))) (routineOf (now (blocks .entry)) code) place (suc b) (endOf word)
-        (reading (now (registers .entry)) (now (words .entry)) (now (frames .entry)) (now (constants .entry)) views fields since base))
+        → numbered place r tt ≡ readEdges (tablesIn types tags) (routineIn blocks code) place (suc b) (endOf word)
+        (readingIn registers words frames constants views fields since base))
         × (r ≤ 15) ⌝ }
 {
     let op = word::opcode(word);
@@ -292,8 +291,8 @@ pub fn last(
 ) -> u32
     requires { ⌜ (now rows ≡ opcodeRows) × (b < 256) × (length (now blocks) ≤ 2304) ⌝ }
     ensures { λ r. ⌜ ((place : Question → Refusal) (types code views fields : List ℕ) (since : ℕ)
-        → numbered place r tt ≡ lastAsk (tablesOf types (now (tags .entry))) (routineOf (now (blocks .entry)) code) place b (decode word)
-        (reading (now (registers .entry)) (now (words .entry)) (now (frames .entry)) (now (constants .entry)) views fields since base))
+        → numbered place r tt ≡ lastAsk (tablesIn types tags) (routineIn blocks code) place b (decode word)
+        (readingIn registers words frames constants views fields since base))
         × (r ≤ 15) ⌝ }
 {
     let count = (blocks.len() / table::ROW_WORDS) as u32;

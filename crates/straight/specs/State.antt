@@ -4,13 +4,14 @@ use Prim.Native.Nat.{ℕ, zero, suc, _-_, _%_}
 use mathlib.Core.Bool.{Bool}
 use lib.Dec.{ltb}
 use lib.ListN.{getD}
+use denote.Ref.{now}
 use Rattle.model.specs.Question.{pick, Question, questionOf, q7, q8, q11, q12, Refusal, Outcome, ok, refused, ask}
 use Rattle.model.specs.Word.{opcodeOf, aOf, bOf, cOf}
 use Rattle.model.specs.Table.{Tables}
 use Rattle.model.specs.Machine.{Plain, constant, copy, add, subtract, multiply, divide, move, load, store, Instruction, plain, end, malformed}
 use Rattle.model.specs.Reading.{Reading, look, loaded, stored}
 use Rattle.model.specs.Check.{valueIn, mayTouch, readPlain}
-use Rattle.fits.specs.Numbers.{valuesOf}
+use Rattle.fits.specs.Numbers.{valuesOf, Lent}
 
 -- A view is the birthplace of the fields seen. There are 32 birthplaces.
 abbrev pub viewOf : ℕ → ℕ
@@ -29,6 +30,17 @@ reading registers words frames constants views fields since base =
       base = base;
       fields = fields;
     }
+
+-- the reading that the lent arrays make at entry, and at exit
+abbrev pub before : Lent → Lent → Lent → Lent → Lent → Lent → ℕ → ℕ → Reading
+before registers words frames constants views fields since base =
+    reading (now (registers .entry)) (now (words .entry)) (now (frames .entry)) (now (constants .entry)) (now (views .entry)) (now (fields .entry))
+    since base
+
+abbrev pub after : Lent → Lent → Lent → Lent → Lent → Lent → ℕ → ℕ → Reading
+after registers words frames constants views fields since base =
+    reading (now (registers .exit)) (now (words .exit)) (now (frames .exit)) (now (constants .exit)) (now (views .exit)) (now (fields .exit))
+    since base
 
 -- ---- outcomes
 

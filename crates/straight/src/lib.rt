@@ -16,8 +16,8 @@ ghost use Rattle.model.specs.Machine.{decode};
 ghost use Rattle.model.specs.Reading.{laidAt, upFrom, steady, movedWord, look, rowFits};
 ghost use Rattle.model.specs.Check.{readPlain};
 ghost use Rattle.instruction.specs.Rows.{opcodeRows};
-ghost use Rattle.fits.specs.Numbers.{valuesOf};
-ghost use Rattle.straight.specs.State.{reading, numbered, plainOf, loadAsk, storeAsk, touched, earlyAsk};
+ghost use Rattle.fits.specs.Numbers.{tablesIn, valuesIn};
+ghost use Rattle.straight.specs.State.{reading, before, after, numbered, plainOf, loadAsk, storeAsk, touched, earlyAsk};
 use model::Reference;
 
 // Numbers of the questions asked of code.
@@ -223,8 +223,8 @@ fn put(
 ) -> bool
     requires { ⌜ (c < n) × (n ≤ 8) × (n ≤ length (now row)) ⌝ }
     ensures { λ r. ⌜ (now (fields .exit) ≡ set (now (fields .entry)) c x)
-        × ((types : List ℕ) → r ≡ rowFits (tablesOf types (now (tags .entry))) (valuesOf (now (words .entry)) (now (frames .entry)) (now (constants .entry)) 0 0)
-        n (now (row .entry)) (set (now (fields .entry)) c x)) ⌝ }
+        × ((types : List ℕ)
+        → r ≡ rowFits (tablesIn types tags) (valuesIn words frames constants 0 0) n (now (row .entry)) (set (now (fields .entry)) c x)) ⌝ }
 {
     fields[c as usize] = x;
     fits::row_fits(
@@ -258,8 +258,9 @@ fn store(
 ) -> Progress
     requires { ⌜ (n ≡ headOf (now types) t) × (n ≤ 8) × (c < n) × (t * 9 + 9 ≤ length (now types)) × (g < 32) ⌝ }
     ensures { λ r. ⌜ ((place : Question → Refusal) (registers views : List ℕ)
-        → numbered place (r .number) (reading registers (now (words .entry)) (now (frames .entry)) (now (constants .entry)) views (now (fields .exit)) (r .since) (r .base))
-        ≡ storeAsk (tablesOf (now (types .entry)) (now (tags .entry))) place g v t c x
+        → numbered place (r .number)
+        (reading registers (now (words .entry)) (now (frames .entry)) (now (constants .entry)) views (now (fields .exit)) (r .since) (r .base))
+        ≡ storeAsk (tablesIn (now (types .entry)) tags) place g v t c x
         (reading registers (now (words .entry)) (now (frames .entry)) (now (constants .entry)) views (now (fields .entry)) (s .since) (s .base)))
         × (r .number ≤ 12) ⌝ }
 {
@@ -305,9 +306,9 @@ fn touch(
     requires { ⌜ (g < 32) × (a < 8) × (s .number ≡ 0) × (length (now fields) ≡ 8)
         × (length (now types) % 9 ≡ 0) × ((t : ℕ) → headOf (now types) t ≤ 8) ⌝ }
     ensures { λ r. ⌜ ((place : Question → Refusal)
-        → numbered place (r .number) (reading (now (registers .exit)) (now (words .exit)) (now (frames .exit)) (now (constants .exit)) (now (views .exit)) (now (fields .exit)) (r .since) (r .base))
-        ≡ touched (tablesOf (now (types .entry)) (now (tags .entry))) place g loads a v t c
-        (reading (now (registers .entry)) (now (words .entry)) (now (frames .entry)) (now (constants .entry)) (now (views .entry)) (now (fields .entry)) (s .since) (s .base)))
+        → numbered place (r .number) (after registers words frames constants views fields (r .since) (r .base))
+        ≡ touched (tablesIn (now (types .entry)) tags) place g loads a v t c
+        (before registers words frames constants views fields (s .since) (s .base)))
         × (r .number ≤ 12) ⌝ }
 {
     let n = size(types, t);
@@ -365,9 +366,9 @@ fn access(
     requires { ⌜ (8 ≤ opcodeOf word) × (opcodeOf word ≤ 9) × (g < 32) × (aOf word < 8) × (bOf word < 8) × (s .number ≡ 0) × (length (now fields) ≡ 8)
         × (length (now types) % 9 ≡ 0) × ((t : ℕ) → headOf (now types) t ≤ 8) ⌝ }
     ensures { λ r. ⌜ ((place : Question → Refusal)
-        → numbered place (r .number) (reading (now (registers .exit)) (now (words .exit)) (now (frames .exit)) (now (constants .exit)) (now (views .exit)) (now (fields .exit)) (r .since) (r .base))
-        ≡ readPlain (tablesOf (now (types .entry)) (now (tags .entry))) place g (plainOf word)
-        (reading (now (registers .entry)) (now (words .entry)) (now (frames .entry)) (now (constants .entry)) (now (views .entry)) (now (fields .entry)) (s .since) (s .base)))
+        → numbered place (r .number) (after registers words frames constants views fields (r .since) (r .base))
+        ≡ readPlain (tablesIn (now (types .entry)) tags) place g (plainOf word)
+        (before registers words frames constants views fields (s .since) (s .base)))
         × (r .number ≤ 12) ⌝ }
 {
     let a = word::a(word);
@@ -416,9 +417,9 @@ fn step(
     requires { ⌜ (0 < opcodeOf word) × (opcodeOf word ≤ 9) × (g < 32) × (aOf word < 8) × (bOf word < 8) × (s .number ≡ 0) × (length (now fields) ≡ 8)
         × (length (now types) % 9 ≡ 0) × ((t : ℕ) → headOf (now types) t ≤ 8) ⌝ }
     ensures { λ r. ⌜ ((place : Question → Refusal)
-        → numbered place (r .number) (reading (now (registers .exit)) (now (words .exit)) (now (frames .exit)) (now (constants .exit)) (now (views .exit)) (now (fields .exit)) (r .since) (r .base))
-        ≡ readPlain (tablesOf (now (types .entry)) (now (tags .entry))) place g (plainOf word)
-        (reading (now (registers .entry)) (now (words .entry)) (now (frames .entry)) (now (constants .entry)) (now (views .entry)) (now (fields .entry)) (s .since) (s .base)))
+        → numbered place (r .number) (after registers words frames constants views fields (r .since) (r .base))
+        ≡ readPlain (tablesIn (now (types .entry)) tags) place g (plainOf word)
+        (before registers words frames constants views fields (s .since) (s .base)))
         × (r .number ≤ 12) ⌝ }
 {
     let op = word::opcode(word);
@@ -477,9 +478,9 @@ pub fn early(
     requires { ⌜ (now rows ≡ opcodeRows) × (g < 32) × (s .number ≡ 0) × (length (now fields) ≡ 8)
         × (length (now types) % 9 ≡ 0) × ((t : ℕ) → headOf (now types) t ≤ 8) ⌝ }
     ensures { λ r. ⌜ ((place : Question → Refusal)
-        → numbered place (r .number) (reading (now (registers .exit)) (now (words .exit)) (now (frames .exit)) (now (constants .exit)) (now (views .exit)) (now (fields .exit)) (r .since) (r .base))
-        ≡ earlyAsk (tablesOf (now (types .entry)) (now (tags .entry))) place g (decode word)
-        (reading (now (registers .entry)) (now (words .entry)) (now (frames .entry)) (now (constants .entry)) (now (views .entry)) (now (fields .entry)) (s .since) (s .base)))
+        → numbered place (r .number) (after registers words frames constants views fields (r .since) (r .base))
+        ≡ earlyAsk (tablesIn (now (types .entry)) tags) place g (decode word)
+        (before registers words frames constants views fields (s .since) (s .base)))
         × (r .number ≤ 15) ⌝ }
 {
     let no = instruction::form(rows, word, false, 0, 0);
