@@ -23,7 +23,8 @@ use Rattle.model.proofs.Lists.{map-set, getD-past, upFrom-at, length-upFrom}
 use Rattle.table.proofs.Laws.{row-length, words-length, head-at, tables-size, tables-words}
 use Rattle.fits.specs.Numbers.{frameOf, valuesOf}
 use Rattle.fits.proofs.Numbers.{frames-set, byKind}
-use Rattle.straight.specs.State.{viewOf, viewsOf, reading, numbered, plainOf, loadAsk, storeAsk, touched}
+use Rattle.straight.specs.declared.Progress.{Progress}
+use Rattle.straight.specs.State.{viewOf, viewsOf, reading, Formed, numbered, plainOf, loadAsk, storeAsk, touched}
 
 -- ---- names and type words
 
@@ -70,7 +71,8 @@ size-at types t = sym (head-at types t)
 pub part-is : (types own : List ℕ) (t : ℕ) → own ≡ rowOf types t → take (length own - 1) (drop 1 own) ≡ wordsOf types t
 part-is types own t e = rw e (take-all (length (rowOf types t) - 1) (drop 1 (rowOf types t)) (omega (arith, length-drop 1 (rowOf types t))))
 
-pub part-length : (types own : List ℕ) (t : ℕ) → t * 9 + 9 ≤ length types → own ≡ rowOf types t → length (take (length own - 1) (drop 1 own)) ≡ 8
+pub part-length : (types own : List ℕ) (t : ℕ) → t * 9 + 9 ≤ length types → own ≡ rowOf types t
+    → length (take (length own - 1) (drop 1 own)) ≡ 8
 part-length types own t h e = ap length (part-is types own t e) ∙ words-length types t h
 
 pub row-words : (types own : List ℕ) (t : ℕ) → t * 9 + 9 ≤ length types → own ≡ rowOf types t → length own ≡ 9
@@ -79,12 +81,12 @@ row-words types own t h e = ap length e ∙ row-length types t h
 -- ---- new values
 
 module _ (registers words frames constants views fields : List ℕ) (since base : ℕ) (a g w f k : ℕ)
-    (registers′ words′ frames′ constants′ : List ℕ)
-    (er : registers′ ≡ set registers a (8 * g)) (ew : words′ ≡ set words (8 * g) w) (ef : frames′ ≡ set frames g f) (ec : constants′ ≡ set constants g k) where
-  pub fresh-is : reading registers′ words′ frames′ constants′ views fields since base
+    (registers′ words′ frames′ constants′ : List ℕ) where
+  pub fresh-is : (registers′ ≡ set registers a (8 * g)) × (words′ ≡ set words (8 * g) w) × (frames′ ≡ set frames g f) × (constants′ ≡ set constants g k)
+      → reading registers′ words′ frames′ constants′ views fields since base
       ≡ fresh (reading registers words frames constants views fields since base) g a w (frameOf f) k
   unfolding fresh born laidAt
-  fresh-is = rw (er, ew, ef, ec, frames-set frames g f)
+  fresh-is (er, ew, ef, ec) = rw (er, ew, ef, ec, frames-set frames g f)
 
 -- ---- opcode 7
 
@@ -93,24 +95,17 @@ module _ (n c : ℕ) where
   unfolding _and_ _or_
   divides-one e = let z : c % 1 ≡ 0 = omega arith in rw (e, z)
 
-  pub divides-two : n ≡ 2 → eqb (c % 2) 0 ≡ steady n and eqb (c % n) 0
-  unfolding _and_ _or_
-  divides-two e = rw e
-
-  pub divides-four : n ≡ 4 → eqb (c % 4) 0 ≡ steady n and eqb (c % n) 0
-  unfolding _and_ _or_
-  divides-four e = rw e
-
-  pub divides-eight : n ≡ 8 → eqb (c % 8) 0 ≡ steady n and eqb (c % n) 0
-  unfolding _and_ _or_
-  divides-eight e = rw e
+  pub divides-by : (k : ℕ) → steady k ≡ true → n ≡ k → eqb (c % k) 0 ≡ steady n and eqb (c % n) 0
+  unfolding _and_
+  divides-by k s e = rw (e, s)
 
   pub divides-other : (n ≡ 1 → ⊥) → (n ≡ 2 → ⊥) → (n ≡ 4 → ⊥) → (n ≡ 8 → ⊥) → false ≡ steady n and eqb (c % n) 0
   unfolding _and_ _or_
   divides-other n1 n2 n4 n8 = rw (ne-eqb n 1 n1, ne-eqb n 2 n2, ne-eqb n 4 n4, ne-eqb n 8 n8)
 
 module _ (types tags : List ℕ) (w c : ℕ) where
-  type-is-span : (k : ℕ) → kindOf w ≡ k + 6 → moves (tablesOf types tags) (typeOf w) c ≡ steady (headOf types (recordOf w)) and eqb (c % headOf types (recordOf w)) 0
+  type-is-span : (k : ℕ) → kindOf w ≡ k + 6
+      → moves (tablesOf types tags) (typeOf w) c ≡ steady (headOf types (recordOf w)) and eqb (c % headOf types (recordOf w)) 0
   unfolding moves typeOf tablesOf
   type-is-span k e = let z : kindOf w ≡ suc (suc (suc (suc (suc (suc k))))) = omega arith in rw z
 
@@ -160,7 +155,8 @@ module _ (types tags registers words frames constants views fields : List ℕ) (
     unfolding look
     look-seen l fields′ ef = rw (le-ltb base 256 h, ← sees, lt-ltb since (x % 32) l, ef)
 
-    pub look-born : x % 32 ≤ since → g < 32 → (row words′ fields′ : List ℕ) → row ≡ wordsOf types t → words′ ≡ laidAt words (8 * g) row → fields′ ≡ upFrom (8 * g) 8
+    pub look-born : x % 32 ≤ since → g < 32 → (row words′ fields′ : List ℕ) → row ≡ wordsOf types t → words′ ≡ laidAt words (8 * g) row
+        → fields′ ≡ upFrom (8 * g) 8
         → reading registers words′ (set frames g g) (set constants g 0) (set views v g) fields′ since base ≡ look (tablesOf types tags) now₀ g v t
     unfolding look viewed born tablesOf
     look-born l s row words′ fields′ er ew ef =
@@ -178,31 +174,43 @@ module _ (base v : ℕ) where
   unfolding _or_
   touch-own h = rw (lt-ltb base 256 h)
 
+-- ---- the parts of a word
+
+pub record Parts (w a b c : ℕ) : Type 0 where
+  pub a-is : a ≡ aOf w
+  pub b-is : b ≡ bOf w
+  pub c-is : c ≡ cOf w
+
+module _ {w a b c : ℕ} (p : Parts w a b c) where
+  plain-constant : opcodeOf w ≡ 1 → plainOf w ≡ constant a c
+  unfolding plainOf
+  plain-constant e = rw (e, ← p .a-is, ← p .c-is)
+
+  plain-copy : opcodeOf w ≡ 2 → plainOf w ≡ copy a b
+  unfolding plainOf
+  plain-copy e = rw (e, ← p .a-is, ← p .b-is)
+
+  plain-move : opcodeOf w ≡ 7 → plainOf w ≡ move a b c
+  unfolding plainOf
+  plain-move e = rw (e, ← p .a-is, ← p .b-is, ← p .c-is)
+
+  plain-load : opcodeOf w ≡ 8 → plainOf w ≡ load a b c
+  unfolding plainOf
+  plain-load e = rw (e, ← p .a-is, ← p .b-is, ← p .c-is)
+
+  plain-store : opcodeOf w ≡ 9 → plainOf w ≡ store a b c
+  unfolding plainOf
+  plain-store e = rw (e, ← p .a-is, ← p .b-is, ← p .c-is)
+
 -- ---- loads and stores
 
-module _ (w a b c : ℕ) (ea : a ≡ aOf w) (eb : b ≡ bOf w) (ec : c ≡ cOf w) where
-  pub plain-constant : opcodeOf w ≡ 1 → plainOf w ≡ constant a c
-  unfolding plainOf
-  plain-constant e = rw (e, ← ea, ← ec)
-
-  pub plain-copy : opcodeOf w ≡ 2 → plainOf w ≡ copy a b
-  unfolding plainOf
-  plain-copy e = rw (e, ← ea, ← eb)
-
-  pub plain-move : opcodeOf w ≡ 7 → plainOf w ≡ move a b c
-  unfolding plainOf
-  plain-move e = rw (e, ← ea, ← eb, ← ec)
-
-  pub plain-load : opcodeOf w ≡ 8 → plainOf w ≡ load a b c
-  unfolding plainOf
-  plain-load e = rw (e, ← ea, ← eb, ← ec)
-
-  pub plain-store : opcodeOf w ≡ 9 → plainOf w ≡ store a b c
-  unfolding plainOf
-  plain-store e = rw (e, ← ea, ← eb, ← ec)
+-- the number of a refusal
+pub number-of : {p q : Progress} → p ≡ q → p .number ≡ q .number
+number-of e = ap (λ (p : Progress). p .number) e
 
 module _ (𝒯 : Tables) (place : Question → Refusal) (a v c : ℕ) (st : Reading) where
-  pub load-own : mayTouch 𝒯 st v ≡ true → (z : ℕ) → z ≡ 0 → numbered place z (putRegister st a (getD (st .fields) c 0)) ≡ loadAsk 𝒯 place a v c st
+  pub load-own : mayTouch 𝒯 st v ≡ true → (z : ℕ) → z ≡ 0
+      → numbered place z (putRegister st a (getD (st .fields) c 0)) ≡ loadAsk 𝒯 place a v c st
   unfolding numbered loadAsk ask loaded
   load-own m z ez = rw (ez, m)
 
@@ -222,7 +230,8 @@ module _ (𝒯 : Tables) (place : Question → Refusal) (g v t c x : ℕ) (st : 
 module _ (types tags : List ℕ) (place : Question → Refusal) (registers words frames constants views fields : List ℕ) (since base g v t c x n : ℕ)
     (m : mayTouch (tablesOf types tags) (reading registers words frames constants views fields since base) v ≡ true)
     (row : List ℕ) (f : Bool) (en : n ≡ headOf types t) (er : row ≡ wordsOf types t)
-    (ef : f ≡ rowFits (tablesOf types tags) (valuesOf words frames constants 0 0) n row (set fields c x)) (fields′ : List ℕ) (e : fields′ ≡ set fields c x) where
+    (ef : f ≡ rowFits (tablesOf types tags) (valuesOf words frames constants 0 0) n row (set fields c x))
+    (fields′ : List ℕ) (e : fields′ ≡ set fields c x) where
   abbrev st₀ : Reading
   st₀ = reading registers words frames constants views fields since base
 
@@ -262,42 +271,40 @@ module _ (𝒯 : Tables) (place : Question → Refusal) (g : ℕ) (loads : Bool)
     unfolding touched storeAsk ask
     touch-store e = rw (as-before, ← en, lt-ltb c n q, e, ← es)
 
-module _ (𝒯 : Tables) (place : Question → Refusal) (g w : ℕ) (st : Reading) (a b c : ℕ) (ea : a ≡ aOf w) (eb : b ≡ bOf w) (ec : c ≡ cOf w)
-    (l : 8 ≤ opcodeOf w) (h : opcodeOf w ≤ 9) where
+module _ {w a b c : ℕ} (p : Parts w a b c) (f : Formed 8 w) (𝒯 : Tables) (place : Question → Refusal) (g : ℕ) (st : Reading) where
   pub access-nothing : Nothing ≡ referenceIn 𝒯 st b → (z : ℕ) → z ≡ 10 → (st′ : Reading) → numbered place z st′ ≡ readPlain 𝒯 place g (plainOf w) st
   unfolding numbered questionOf readPlain onRecord withReference
   access-nothing er z ez st′ =
-      byEqual (opcodeOf w) 8 (λ e. rw (ez, plain-load w a b c ea eb ec e, ← er))
-      (λ n. rw (ez, plain-store w a b c ea eb ec (omega arith), ← er))
+      byEqual (opcodeOf w) 8 (λ e. rw (ez, plain-load p e, ← er)) (λ n. rw (ez, plain-store p (omega arith), ← er))
 
-  pub access-on : (t : ℕ) → To t ≡ referenceIn 𝒯 st b → (p : ℕ) → p ≡ opcodeOf w
-      → touched 𝒯 place g (eqb p 8) a (valueIn st b) t c st ≡ readPlain 𝒯 place g (plainOf w) st
+  pub access-on : (t : ℕ) → To t ≡ referenceIn 𝒯 st b → (o : ℕ) → o ≡ opcodeOf w
+      → touched 𝒯 place g (eqb o 8) a (valueIn st b) t c st ≡ readPlain 𝒯 place g (plainOf w) st
   unfolding readPlain onRecord withReference touched
-  access-on t er p ep =
-      byEqual p 8 (λ e. rw (plain-load w a b c ea eb ec (sym ep ∙ e), ← er, eq-eqb p 8 e))
-      (λ n. rw (plain-store w a b c ea eb ec (omega arith), ← er, ne-eqb p 8 n))
+  access-on t er o eo =
+      byEqual o 8 (λ e. rw (plain-load p (sym eo ∙ e), ← er, eq-eqb o 8 e))
+      (λ n. rw (plain-store p (omega arith), ← er, ne-eqb o 8 n))
 
 -- ---- the other instructions
 
-module _ (𝒯 : Tables) (place : Question → Refusal) (g w : ℕ) (st : Reading) (a b c : ℕ) (z : ℕ) (ez : z ≡ 0) where
-  pub step-copy : plainOf w ≡ copy a b → numbered place z (putRegister st a (valueIn st b)) ≡ readPlain 𝒯 place g (plainOf w) st
+module _ {w a b c : ℕ} (p : Parts w a b c) (𝒯 : Tables) (place : Question → Refusal) (g : ℕ) (st : Reading) (z : ℕ) (ez : z ≡ 0) where
+  pub step-copy : opcodeOf w ≡ 2 → numbered place z (putRegister st a (valueIn st b)) ≡ readPlain 𝒯 place g (plainOf w) st
   unfolding numbered readPlain
-  step-copy e = rw (ez, e)
+  step-copy o = rw (ez, plain-copy p o)
 
   module _ (st′ : Reading) where
-    pub step-constant : plainOf w ≡ constant a c → st′ ≡ fresh st g a 0 0 (c + 1) → numbered place z st′ ≡ readPlain 𝒯 place g (plainOf w) st
+    pub step-constant : opcodeOf w ≡ 1 → st′ ≡ fresh st g a 0 0 (c + 1) → numbered place z st′ ≡ readPlain 𝒯 place g (plainOf w) st
     unfolding numbered readPlain
-    step-constant e es = rw (ez, e, es, add-one c)
+    step-constant o es = rw (ez, plain-constant p o, es, add-one c)
 
-    pub step-move : plainOf w ≡ move a b c → (v m f : ℕ) → v ≡ valueIn st b → m ≡ movedWord 𝒯 (getD (st .values .words) v 0) c
+    pub step-move : opcodeOf w ≡ 7 → (v m f : ℕ) → v ≡ valueIn st b → m ≡ movedWord 𝒯 (getD (st .values .words) v 0) c
         → f ≡ getD (st .values .frames) (birthplace v) 0 → st′ ≡ fresh st g a m f 0 → numbered place z st′ ≡ readPlain 𝒯 place g (plainOf w) st
     unfolding numbered readPlain
-    step-move e v m f ev em ef es = rw (ez, e, ← ev, ← em, ← ef, es)
+    step-move o v m f ev em ef es = rw (ez, plain-move p o, ← ev, ← em, ← ef, es)
 
-    pub step-arithmetic : 2 < opcodeOf w → opcodeOf w < 7 → a ≡ aOf w → st′ ≡ fresh st g a 0 0 0 → numbered place z st′ ≡ readPlain 𝒯 place g (plainOf w) st
+    pub step-arithmetic : 2 < opcodeOf w → opcodeOf w < 7 → st′ ≡ fresh st g a 0 0 0 → numbered place z st′ ≡ readPlain 𝒯 place g (plainOf w) st
     unfolding numbered readPlain plainOf
-    step-arithmetic l h ea es =
-        byLess (opcodeOf w) 4 (λ k. let o : opcodeOf w ≡ 3 = omega arith in rw (ez, es, o, ea))
-        (λ g4. byLess (opcodeOf w) 5 (λ k. let o : opcodeOf w ≡ 4 = omega arith in rw (ez, es, o, ea))
-        (λ g5. byLess (opcodeOf w) 6 (λ k. let o : opcodeOf w ≡ 5 = omega arith in rw (ez, es, o, ea))
-        (λ g6. let o : opcodeOf w ≡ 6 = omega arith in rw (ez, es, o, ea))))
+    step-arithmetic l h es =
+        byLess (opcodeOf w) 4 (λ k. let o : opcodeOf w ≡ 3 = omega arith in rw (ez, es, o, p .a-is))
+        (λ g4. byLess (opcodeOf w) 5 (λ k. let o : opcodeOf w ≡ 4 = omega arith in rw (ez, es, o, p .a-is))
+        (λ g5. byLess (opcodeOf w) 6 (λ k. let o : opcodeOf w ≡ 5 = omega arith in rw (ez, es, o, p .a-is))
+        (λ g6. let o : opcodeOf w ≡ 6 = omega arith in rw (ez, es, o, p .a-is))))

@@ -1,13 +1,14 @@
 -- The state of a reading as the arrays of the code hold it, outcomes as numbers, and the instruction that a well-formed word is.
 use mathlib.Core.List.{List, [], _∷_, map}
-use Prim.Native.Nat.{ℕ, zero, suc, _-_, _%_}
+use mathlib.Core.Path.{_≡_}
+use Prim.Native.Nat.{ℕ, zero, suc, _-_, _%_, _≤_, _<_}
 use mathlib.Core.Bool.{Bool}
 use lib.Dec.{ltb}
-use lib.ListN.{getD}
+use lib.ListN.{length, getD}
 use denote.Ref.{now}
 use Rattle.model.specs.Question.{pick, Question, questionOf, q7, q8, q11, q12, Refusal, Outcome, ok, refused, ask}
 use Rattle.model.specs.Word.{opcodeOf, aOf, bOf, cOf}
-use Rattle.model.specs.Table.{Tables}
+use Rattle.model.specs.Table.{Tables, headOf}
 use Rattle.model.specs.Machine.{Plain, constant, copy, add, subtract, multiply, divide, move, load, store, Instruction, plain, end, malformed}
 use Rattle.model.specs.Reading.{Reading, look, loaded, stored}
 use Rattle.model.specs.Check.{valueIn, mayTouch, readPlain}
@@ -41,6 +42,20 @@ abbrev pub after : Lent → Lent → Lent → Lent → Lent → Lent → ℕ →
 after registers words frames constants views fields since base =
     reading (now (registers .exit)) (now (words .exit)) (now (frames .exit)) (now (constants .exit)) (now (views .exit)) (now (fields .exit))
     since base
+
+-- a reading with no refusal so far, a place for eight fields, and a table of whole rows whose sizes are at most 8
+pub record Ready (number : ℕ) (types fields : List ℕ) : Type 0 where
+  pub goes-on : number ≡ 0
+  pub eight : length fields ≡ 8
+  pub whole : length types % 9 ≡ 0
+  pub small : (t : ℕ) → headOf types t ≤ 8
+
+-- a word with an opcode from least to 9 and registers that exist
+pub record Formed (least word : ℕ) : Type 0 where
+  pub from : least ≤ opcodeOf word
+  pub to : opcodeOf word ≤ 9
+  pub a-exists : aOf word < 8
+  pub b-exists : bOf word < 8
 
 -- ---- outcomes
 

@@ -10,14 +10,13 @@ ghost use lib.ListN.{length, set};
 ghost use lib.Dec.{eqb, ltb};
 ghost use mathlib.Core.Bool.{not};
 ghost use Rattle.model.specs.Question.{_and_, _or_, Question, Refusal};
-ghost use Rattle.model.specs.Word.{opcodeOf, aOf, bOf};
 ghost use Rattle.model.specs.Table.{tablesOf, headOf};
 ghost use Rattle.model.specs.Machine.{decode};
 ghost use Rattle.model.specs.Reading.{laidAt, upFrom, steady, movedWord, look, rowFits};
 ghost use Rattle.model.specs.Check.{readPlain};
 ghost use Rattle.instruction.specs.Rows.{opcodeRows};
 ghost use Rattle.fits.specs.Numbers.{tablesIn, valuesIn};
-ghost use Rattle.straight.specs.State.{reading, before, after, numbered, plainOf, loadAsk, storeAsk, touched, earlyAsk};
+ghost use Rattle.straight.specs.State.{reading, before, after, Ready, Formed, numbered, plainOf, loadAsk, storeAsk, touched, earlyAsk};
 use model::Reference;
 
 // Numbers of the questions asked of code.
@@ -146,7 +145,17 @@ fn moved_word(types: &[u32], w: u32, c: u32) -> u32
 
 // ---- loads and stores
 
-// The fields of the record behind v are at hand: those of the open record, those seen since the last close, or new ones.
+// A load to register a, or a store from it, at offset c of the record of type t behind the value v, at birthplace g.
+struct Transfer {
+    loads: bool,
+    a: usize,
+    v: u8,
+    t: u32,
+    c: u32,
+    g: usize,
+}
+
+// The fields of the record are at hand: those of the open record, those seen since the last close, or new ones.
 fn look(
     types: &[u32],
     words: &mut [u32; 256],
@@ -154,32 +163,33 @@ fn look(
     constants: &mut [u32; 32],
     views: &mut [u8; 256],
     fields: &mut [u8; 8],
-    since: u32,
-    base: u32,
-    v: u8,
-    t: u32,
-    g: usize,
+    s: Progress,
+    x: Transfer,
 )
-    requires { ⌜ (g < 32) × (t * 9 + 9 ≤ length (now types)) × (length (now fields) ≡ 8) ⌝ }
+    requires { ⌜ (x .g < 32) × (x .t * 9 + 9 ≤ length (now types)) × (length (now fields) ≡ 8) ⌝ }
     ensures { λ _. ⌜ ((registers tags : List ℕ)
-        → reading registers (now (words .exit)) (now (frames .exit)) (now (constants .exit)) (now (views .exit)) (now (fields .exit)) since base
+        → reading registers (now (words .exit)) (now (frames .exit)) (now (constants .exit)) (now (views .exit)) (now (fields .exit))
+        (s .since) (s .base)
         ≡ look (tablesOf (now (types .entry)) tags)
-        (reading registers (now (words .entry)) (now (frames .entry)) (now (constants .entry)) (now (views .entry)) (now (fields .entry)) since base)
-        g v t) ⌝ }
+        (reading registers (now (words .entry)) (now (frames .entry)) (now (constants .entry)) (now (views .entry)) (now (fields .entry))
+        (s .since) (s .base))
+        (x .g) (x .v) (x .t)) ⌝ }
 {
-    if base < NO_BASE {
+    if s.base < NO_BASE {
         return;
     }
-    let seen = fits::wide(views[v as usize]) % 32;
-    if since < seen {
+    let v = x.v as usize;
+    let seen = fits::wide(views[v]) % 32;
+    if s.since < seen {
         name_all(fields, 8 * seen);
         return;
     }
-    let own = table::row(types, t as usize);
+    let own = table::row(types, x.t as usize);
+    let g = x.g;
     lay(words, &own[1..], 8 * g);
     frames[g] = g as u8;
     constants[g] = 0;
-    views[v as usize] = g as u8;
+    views[v] = g as u8;
     name_all(fields, 8 * (g as u32));
 }
 
@@ -193,17 +203,19 @@ fn may_touch(base: u32, v: u8) -> bool
     base == (v as u32)
 }
 
-// Q12 of a load, and register a holds field c of the record behind v, whose fields are at hand.
-fn load(registers: &mut [u8; 8], fields: &[u8; 8], s: Progress, a: usize, v: u8, c: u32) -> Progress
-    requires { ⌜ (a < 8) × (c < 8) × (s .number ≡ 0) ⌝ }
+// Q12 of a load, and the register holds the field of the record whose fields are at hand.
+fn load(registers: &mut [u8; 8], fields: &[u8; 8], s: Progress, x: Transfer) -> Progress
+    requires { ⌜ (x .a < 8) × (x .c < 8) × (s .number ≡ 0) ⌝ }
     ensures { λ r. ⌜ ((place : Question → Refusal) (types tags words frames constants views : List ℕ)
         → numbered place (r .number) (reading (now (registers .exit)) words frames constants views (now (fields .entry)) (r .since) (r .base))
-        ≡ loadAsk (tablesOf types tags) place a v c
+        ≡ loadAsk (tablesOf types tags) place (x .a) (x .v) (x .c)
         (reading (now (registers .entry)) words frames constants views (now (fields .entry)) (s .since) (s .base)))
         × (r .number ≤ 12) ⌝ }
 {
-    if may_touch(s.base, v) {
-        registers[a] = fields[c as usize];
+    if may_touch(s.base, x.v) {
+        let a = x.a;
+        let c = x.c as usize;
+        registers[a] = fields[c];
         return s;
     }
     refused(OTHER_RECORD, s)
@@ -240,7 +252,7 @@ fn put(
     )
 }
 
-// Q12 of a store, and field c of the record behind v, of type t and size n, is the value x. It closes if each field fits its type.
+// Q12 of a store, and the field of the record, of size n, is the value put. It closes if each field fits its type.
 fn store(
     types: &[u32],
     tags: &[u32],
@@ -249,27 +261,34 @@ fn store(
     constants: &[u32; 32],
     fields: &mut [u8; 8],
     s: Progress,
-    v: u8,
-    t: u32,
+    x: Transfer,
     n: u32,
-    c: u32,
-    x: u8,
-    g: usize,
+    value: u8,
 ) -> Progress
-    requires { ⌜ (n ≡ headOf (now types) t) × (n ≤ 8) × (c < n) × (t * 9 + 9 ≤ length (now types)) × (g < 32) ⌝ }
+    requires { ⌜ (n ≡ headOf (now types) (x .t)) × (n ≤ 8) × (x .c < n) × (x .t * 9 + 9 ≤ length (now types)) × (x .g < 32) ⌝ }
     ensures { λ r. ⌜ ((place : Question → Refusal) (registers views : List ℕ)
         → numbered place (r .number)
         (reading registers (now (words .entry)) (now (frames .entry)) (now (constants .entry)) views (now (fields .exit)) (r .since) (r .base))
-        ≡ storeAsk (tablesIn (now (types .entry)) tags) place g v t c x
+        ≡ storeAsk (tablesIn (now (types .entry)) tags) place (x .g) (x .v) (x .t) (x .c) value
         (reading registers (now (words .entry)) (now (frames .entry)) (now (constants .entry)) views (now (fields .entry)) (s .since) (s .base)))
         × (r .number ≤ 12) ⌝ }
 {
-    if !may_touch(s.base, v) {
+    if !may_touch(s.base, x.v) {
         return refused(OTHER_RECORD, s);
     }
-    let own = table::row(types, t as usize);
-    let born = g as u32;
-    if put(tags, words, frames, constants, fields, n, c, x, &own[1..]) {
+    let own = table::row(types, x.t as usize);
+    let born = x.g as u32;
+    if put(
+        tags,
+        words,
+        frames,
+        constants,
+        fields,
+        n,
+        x.c,
+        value,
+        &own[1..],
+    ) {
         return Progress {
             number: 0,
             since: born,
@@ -277,15 +296,16 @@ fn store(
         };
     }
     let since = s.since;
+    let base = x.v as u32;
     Progress {
         number: 0,
         since: since,
-        base: v as u32,
+        base: base,
     }
 }
 
-// A load or a store of register a at offset c of the record behind v, of type t: Q11 and Q12. The size past the table is 0, so
-// that Q11 has a no there. A look leaves an open record's fields at hand, so that it can come before Q12.
+// A load or a store: Q11 and Q12. The size past the table is 0, so that Q11 has a no there. A look leaves an open record's fields
+// at hand, so that it can come before Q12.
 fn touch(
     types: &[u32],
     tags: &[u32],
@@ -296,42 +316,25 @@ fn touch(
     views: &mut [u8; 256],
     fields: &mut [u8; 8],
     s: Progress,
-    loads: bool,
-    a: usize,
-    v: u8,
-    t: u32,
-    c: u32,
-    g: usize,
+    x: Transfer,
 ) -> Progress
-    requires { ⌜ (g < 32) × (a < 8) × (s .number ≡ 0) × (length (now fields) ≡ 8)
-        × (length (now types) % 9 ≡ 0) × ((t : ℕ) → headOf (now types) t ≤ 8) ⌝ }
+    requires { ⌜ (x .g < 32) × (x .a < 8) × Ready (s .number) (now types) (now fields) ⌝ }
     ensures { λ r. ⌜ ((place : Question → Refusal)
         → numbered place (r .number) (after registers words frames constants views fields (r .since) (r .base))
-        ≡ touched (tablesIn (now (types .entry)) tags) place g loads a v t c
+        ≡ touched (tablesIn (now (types .entry)) tags) place (x .g) (x .loads) (x .a) (x .v) (x .t) (x .c)
         (before registers words frames constants views fields (s .since) (s .base)))
         × (r .number ≤ 12) ⌝ }
 {
-    let n = size(types, t);
-    if n <= c {
+    let n = size(types, x.t);
+    if n <= x.c {
         return refused(OFFSET, s);
     }
-    look(
-        types,
-        words,
-        frames,
-        constants,
-        views,
-        fields,
-        s.since,
-        s.base,
-        v,
-        t,
-        g,
-    );
-    if loads {
-        return load(registers, fields, s, a, v, c);
+    look(types, words, frames, constants, views, fields, s, x);
+    if x.loads {
+        return load(registers, fields, s, x);
     }
-    let x = registers[a];
+    let a = x.a;
+    let value = registers[a];
     store(
         types,
         tags,
@@ -340,12 +343,9 @@ fn touch(
         constants,
         fields,
         s,
-        v,
-        t,
-        n,
-        c,
         x,
-        g,
+        n,
+        value,
     )
 }
 
@@ -363,8 +363,7 @@ fn access(
     word: u32,
     g: usize,
 ) -> Progress
-    requires { ⌜ (8 ≤ opcodeOf word) × (opcodeOf word ≤ 9) × (g < 32) × (aOf word < 8) × (bOf word < 8) × (s .number ≡ 0) × (length (now fields) ≡ 8)
-        × (length (now types) % 9 ≡ 0) × ((t : ℕ) → headOf (now types) t ≤ 8) ⌝ }
+    requires { ⌜ Formed 8 word × (g < 32) × Ready (s .number) (now types) (now fields) ⌝ }
     ensures { λ r. ⌜ ((place : Question → Refusal)
         → numbered place (r .number) (after registers words frames constants views fields (r .since) (r .base))
         ≡ readPlain (tablesIn (now (types .entry)) tags) place g (plainOf word)
@@ -378,7 +377,14 @@ fn access(
     let Reference::To(t) = fits::reference(tags, words, frames, constants, 0, 0, v) else {
         return refused(NO_REFERENCE, s);
     };
-    let loads = word::opcode(word) == instruction::LOAD;
+    let x = Transfer {
+        loads: word::opcode(word) == instruction::LOAD,
+        a: a,
+        v: v,
+        t: t,
+        c: c,
+        g: g,
+    };
     touch(
         types,
         tags,
@@ -389,12 +395,7 @@ fn access(
         views,
         fields,
         s,
-        loads,
-        a,
-        v,
-        t,
-        c,
-        g,
+        x,
     )
 }
 
@@ -414,8 +415,7 @@ fn step(
     word: u32,
     g: usize,
 ) -> Progress
-    requires { ⌜ (0 < opcodeOf word) × (opcodeOf word ≤ 9) × (g < 32) × (aOf word < 8) × (bOf word < 8) × (s .number ≡ 0) × (length (now fields) ≡ 8)
-        × (length (now types) % 9 ≡ 0) × ((t : ℕ) → headOf (now types) t ≤ 8) ⌝ }
+    requires { ⌜ Formed 1 word × (g < 32) × Ready (s .number) (now types) (now fields) ⌝ }
     ensures { λ r. ⌜ ((place : Question → Refusal)
         → numbered place (r .number) (after registers words frames constants views fields (r .since) (r .base))
         ≡ readPlain (tablesIn (now (types .entry)) tags) place g (plainOf word)
@@ -475,8 +475,7 @@ pub fn early(
     word: u32,
     g: usize,
 ) -> Progress
-    requires { ⌜ (now rows ≡ opcodeRows) × (g < 32) × (s .number ≡ 0) × (length (now fields) ≡ 8)
-        × (length (now types) % 9 ≡ 0) × ((t : ℕ) → headOf (now types) t ≤ 8) ⌝ }
+    requires { ⌜ (now rows ≡ opcodeRows) × (g < 32) × Ready (s .number) (now types) (now fields) ⌝ }
     ensures { λ r. ⌜ ((place : Question → Refusal)
         → numbered place (r .number) (after registers words frames constants views fields (r .since) (r .base))
         ≡ earlyAsk (tablesIn (now (types .entry)) tags) place g (decode word)

@@ -1,11 +1,26 @@
 -- `straight::access` meets its contract.
-use mathlib.Core.Path.{sym, ap, _∙_}
+use mathlib.Core.Path.{sym, _∙_}
 use native.Mathlib.Omega.{arith}
 use borrow.Author.Needs.{needs}
-use Rattle.straight.specs.declared.Progress.{Progress}
-use Rattle.straight.proofs.Steps.{access-nothing, access-on}
+use Rattle.straight.proofs.Steps.{Parts, number-of, access-nothing, access-on}
 use Rattle.straight.proofs.access.Statement.{statement}
 use Rattle.straight.proofs.access.Tie as tie
+
+-- ---- places: the word's parts read, what the reference is to, and the opcode
+
+abbrev start : tie.After-c → tie.Start
+start c = c .before .before .before .before .before
+
+abbrev read : tie.After-reference → tie.After-c
+read c = c .before .before .before .before .before
+
+abbrev opcode : tie.After-touch → tie.After-opcode
+opcode c = c .before .before .before .before .before .before .before
+
+parts : (c : tie.After-c) → Parts (start c .args .word) (c .before .before .a .result) (c .before .b .result) (c .c .result)
+parts c = record { a-is = c .before .before .a .ensures .0; b-is = c .before .b .ensures .0; c-is = c .c .ensures .0 }
+
+-- ---- the needs
 
 a-requires : tie.Need-a-requires
 a-requires c κs = search needs
@@ -32,31 +47,31 @@ refused-requires : tie.Need-refused-requires
 refused-requires c κs = search needs
 
 returns : tie.Need-returns
-returns c = (
-  λ place. access-nothing _ _ _ _ _ _ _ _
-      (c .before .before .before .before .before .before .before .before .before .before .a .ensures .0)
-      (c .before .before .before .before .before .before .before .before .before .b .ensures .0)
-      (c .before .before .before .before .before .before .before .before .c .ensures .0)
-      (c .before .before .before .before .before .before .before .before .before .before .before .before .before .pre .0)
-      (c .before .before .before .before .before .before .before .before .before .before .before .before .before .pre .1) (sym
-      (c .before .enum-told .given .1) ∙ c .before .before .before .reference .ensures _) _ (ap (λ (p : Progress). p .number)
-      (c .refused .ensures)) _,
-  omega (arith, (ap (λ (p : Progress). p .number) (c .refused .ensures))),
-)
+returns c =
+    let r = c .before .before .before in
+    let w = read r in
+    let n = number-of (c .refused .ensures) in (
+      λ place. access-nothing (parts w) (start w .pre .0) _ _ _ _ (sym (c .before .enum-told .given .1) ∙ r .reference .ensures _) _ n _,
+      omega arith,
+    )
 
 opcode-requires : tie.Need-opcode-requires
 opcode-requires c κs = search needs
 
 touch-requires : tie.Need-touch-requires
-touch-requires c κs =
-    (c .before .before .before .before .before .before .before .before .before .before .before .before .before .before .before .before .before .before .before .before .pre .2, omega arith, c .before .before .before .before .before .before .before .before .before .before .before .before .before .before .before .before .before .before .before .before .pre .5, c .before .before .before .before .before .before .before .before .before .before .before .before .before .before .before .before .before .before .before .before .pre .6, c .before .before .before .before .before .before .before .before .before .before .before .before .before .before .before .before .before .before .before .before .pre .7, c .before .before .before .before .before .before .before .before .before .before .before .before .before .before .before .before .before .before .before .before .pre .8)
+touch-requires c κs = search needs
 
 returns-2 : tie.Need-returns-2
-returns-2 c = (
-  λ place. c .touch .ensures .0 place ∙ access-on _ _ _ _ _ _ _ _
-      (c .before .before .before .before .before .before .before .before .before .before .before .before .before .before .before .before .before .before .a .ensures .0) (c .before .before .before .before .before .before .before .before .before .before .before .before .before .before .before .before .before .b .ensures .0) (c .before .before .before .before .before .before .before .before .before .before .before .before .before .before .before .before .c .ensures .0) (c .before .before .before .before .before .before .before .before .before .before .before .before .before .before .before .before .before .before .before .before .before .pre .0) (c .before .before .before .before .before .before .before .before .before .before .before .before .before .before .before .before .before .before .before .before .before .pre .1) _ (sym (c .before .before .before .before .before .before .before .before .before .t .given .1) ∙ c .before .before .before .before .before .before .before .before .before .before .before .reference .ensures _) _ (c .before .before .before .before .before .before .before .opcode .ensures .0),
-  c .touch .ensures .1,
-)
+returns-2 c =
+    let o = opcode c in
+    let t = o .before .before in
+    let r = t .before .before in
+    let w = read r in (
+      λ place.
+          c .touch .ensures .0 place
+          ∙ access-on (parts w) (start w .pre .0) _ _ _ _ _ (sym (t .t .given .1) ∙ r .reference .ensures _) _ (o .opcode .ensures .0),
+      c .touch .ensures .1,
+    )
 
 pub access-spec : {M : Type 1} → statement M
 access-spec =

@@ -40,14 +40,12 @@ loop-less : tie.Need-loop-less Inv-loop μ-loop
 loop-less c = omega arith
 
 loop-again : tie.Need-loop-again Inv-loop μ-loop
-loop-again c = (
-  c .before .before .loop .inv .0 ∙ laid-on _ _ _ (now (c .before .before .before .args .row)) (c .before .before .loop .k) _
-      (omega arith) (omega arith) refl,
-  omega arith,
-)
+loop-again c =
+    let a = c .before .before in
+    (a .loop .inv .0 ∙ laid-on _ _ _ (now (a .before .args .row)) (a .loop .k) _ (omega arith) (omega arith) refl, omega arith)
 
 returns : tie.Need-returns Inv-loop μ-loop
-returns c = sym (c .before .loop .inv .0 ∙ laid-end _ _ (now (c .before .before .args .row)) (c .before .loop .k) (omega arith))
+returns c = let a = c .before in sym (a .loop .inv .0 ∙ laid-end _ _ (now (a .before .args .row)) (a .loop .k) (omega arith))
 
 pub lay-spec : {M : Type 1} → statement M
 lay-spec =

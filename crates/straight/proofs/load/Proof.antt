@@ -1,14 +1,16 @@
 -- `straight::load` meets its contract.
-use mathlib.Core.Path.{sym, ap, _∙_}
+use mathlib.Core.Path.{sym, _∙_}
 use native.Mathlib.Omega.{arith}
 use borrow.Author.Needs.{needs}
-use Rattle.straight.specs.declared.Progress.{Progress}
-use Rattle.straight.proofs.Steps.{load-own, load-other}
+use Rattle.straight.proofs.Steps.{number-of, load-own, load-other}
 use Rattle.straight.proofs.load.Statement.{statement}
 use Rattle.straight.proofs.load.Tie as tie
 
 may-touch-requires : tie.Need-may-touch-requires
 may-touch-requires c κs = search needs
+
+cast-c : tie.Need-cast-c
+cast-c c = search needs
 
 element-copy-out-registers : tie.Need-element-copy-out-registers
 element-copy-out-registers c = search needs
@@ -17,27 +19,29 @@ element-write-registers : tie.Need-element-write-registers
 element-write-registers c = search needs
 
 returns : tie.Need-returns
-returns c = (
-  λ place types tags words frames constants views. load-own _ _ _ _ _ _ (sym (c .before .before .may-touch .ensures) ∙ c .before .if1 .taken) _
-      (omega arith),
-  omega arith,
-)
+returns c =
+    let t = c .before .before in (
+      λ place types tags words frames constants views. load-own _ _ _ _ _ _ (sym (t .before .may-touch .ensures) ∙ t .if1 .taken) _ (omega arith),
+      omega arith,
+    )
 
 refused-requires : tie.Need-refused-requires
 refused-requires c κs = search needs
 
 returns-2 : tie.Need-returns-2
-returns-2 c = (
-  λ place types tags words frames constants views. load-other _ _ _ _ _ _ (sym (c .before .before .may-touch .ensures) ∙ c .before .if1 .left) _
-      (ap (λ (p : Progress). p .number) (c .refused .ensures)) _,
-  omega (arith, (ap (λ (p : Progress). p .number) (c .refused .ensures))),
-)
+returns-2 c =
+    let e = c .before in
+    let n = number-of (c .refused .ensures) in (
+      λ place types tags words frames constants views. load-other _ _ _ _ _ _ (sym (e .before .may-touch .ensures) ∙ e .if1 .left) _ n _,
+      omega arith,
+    )
 
 pub load-spec : {M : Type 1} → statement M
 load-spec =
     tie.close
     (tie.spec
     may-touch-requires
+    cast-c
     element-copy-out-registers
     element-write-registers
     returns

@@ -1,12 +1,31 @@
 -- `straight::look` meets its contract.
+use Prim.Native.Nat.{_*_, _+_, _≤_}
 use native.Mathlib.Omega.{arith}
+use denote.Ref.{now}
+use lib.ListN.{length}
 use borrow.Author.Needs.{needs}
 use Rattle.straight.proofs.Steps.{look-open, look-seen, look-born, part-is, part-length, row-words}
 use Rattle.straight.proofs.look.Statement.{statement}
 use Rattle.straight.proofs.look.Tie as tie
 
+-- ---- places: the view read, and the type's row
+
+abbrev start : tie.After-wide → tie.Start
+start c = c .before .before .before .before .before .before
+
+abbrev viewed : tie.After-row → tie.After-wide
+viewed c = c .before .before .before .before
+
+row-exists : (c : tie.After-row) → start (viewed c) .args .x .t * 9 + 9 ≤ length (now (start (viewed c) .args .types))
+row-exists c = start (viewed c) .pre .1
+
+-- ---- the needs
+
 returns : tie.Need-returns
 returns c = λ registers tags. look-open _ _ _ _ _ _ _ _ _ _ _ _ _ (omega arith)
+
+cast-v : tie.Need-cast-v
+cast-v c = search needs
 
 element-copy-out-wide : tie.Need-element-copy-out-wide
 element-copy-out-wide c = search needs
@@ -22,21 +41,20 @@ name-all-requires c κs = search needs
 
 returns-2 : tie.Need-returns-2
 returns-2 c =
-    λ registers tags. look-seen _ _ _ _ _ _ _ _ _ _ _ _ _ (omega arith) _ (c .before .before .before .wide .ensures .0) (omega arith) _
-    (c .name-all .ensures)
+    let w = c .before .before .before .before in
+    λ registers tags. look-seen _ _ _ _ _ _ _ _ _ _ _ _ _ (omega arith) _ (w .wide .ensures .0) (omega arith) _ (c .name-all .ensures)
+
+cast-row : tie.Need-cast-row
+cast-row c = search needs
 
 row-requires : tie.Need-row-requires
 row-requires c κs = search needs
 
 sub-lay : tie.Need-sub-lay
-sub-lay c =
-    let z = row-words _ _ _ (omega arith) (c .before .row .ensures) in
-    omega arith
+sub-lay c = omega (arith, row-words _ _ _ (row-exists (c .before)) (c .before .row .ensures))
 
 part-lay-start : tie.Need-part-lay-start
-part-lay-start c =
-    let z = row-words _ _ _ (omega arith) (c .before .row .ensures) in
-    omega arith
+part-lay-start c = omega (arith, row-words _ _ _ (row-exists (c .before)) (c .before .row .ensures))
 
 part-lay-end : tie.Need-part-lay-end
 part-lay-end c = search needs
@@ -45,9 +63,7 @@ mul-lay : tie.Need-mul-lay
 mul-lay c = search needs
 
 lay-requires : tie.Need-lay-requires
-lay-requires c κs =
-    let z = part-length _ _ _ (omega arith) (c .before .before .row .ensures) in
-    omega arith
+lay-requires c κs = let r = c .before .before in omega (arith, part-length _ _ _ (row-exists r) (r .row .ensures))
 
 cast-frames : tie.Need-cast-frames
 cast-frames c = search needs
@@ -78,20 +94,24 @@ name-all-requires-2 c κs = search needs
 
 returns-3 : tie.Need-returns-3
 returns-3 c =
-    λ registers tags. look-born _ _ _ _ _ _ _ _ _ _ _ _ _ (omega arith) _
-    (c .before .before .before .before .before .before .before .wide .ensures .0) (omega arith) (omega arith) _ _ _ (part-is _ _ _
-    (c .before .before .before .before .before .row .ensures)) (c .before .before .lay .ensures) (c .name-all2 .ensures)
+    let l = c .before .before in
+    let r = l .before .before .before in
+    λ registers tags.
+    look-born _ _ _ _ _ _ _ _ _ _ _ _ _ (omega arith) _ (viewed r .wide .ensures .0) (omega arith) (start (viewed r) .pre .0) _ _ _
+    (part-is _ _ _ (r .row .ensures)) (l .lay .ensures) (c .name-all2 .ensures)
 
 pub look-spec : {M : Type 1} → statement M
 look-spec =
     tie.close
     (tie.spec
     returns
+    cast-v
     element-copy-out-wide
     wide-requires
     mul-name-all
     name-all-requires
     returns-2
+    cast-row
     row-requires
     sub-lay
     part-lay-start

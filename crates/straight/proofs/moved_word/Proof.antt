@@ -24,16 +24,23 @@ divides-requires c κs = search needs
 
 returns-2 : tie.Need-returns-2
 returns-2 c =
-    λ tags. moved-not _ _ _ _ (omega arith) _ _ (c .before .before .before .record-type .ensures .0) (c .before .before .size .ensures .0)
-    (told-no (c .before .divides .ensures) (c .if2 .taken))
+    let d = c .before in
+    let s = d .before in
+    λ tags.
+    moved-not _ _ _ _ (omega arith) _ _ (s .before .record-type .ensures .0) (s .size .ensures .0)
+    (told-no (d .divides .ensures) (c .if2 .taken))
 
 with-kind-requires : tie.Need-with-kind-requires
 with-kind-requires c κs = search needs
 
 returns-3 : tie.Need-returns-3
 returns-3 c =
-    λ tags. c .with-kind .ensures ∙ moved-on _ _ _ _ (omega arith) _ _ (c .before .before .before .before .record-type .ensures .0) (c .before .before .before .size .ensures .0)
-    (told-yes (c .before .before .divides .ensures) (c .before .if2 .left))
+    let e = c .before in
+    let d = e .before in
+    let s = d .before in
+    λ tags.
+    c .with-kind .ensures
+    ∙ moved-on _ _ _ _ (omega arith) _ _ (s .before .record-type .ensures .0) (s .size .ensures .0) (told-yes (d .divides .ensures) (e .if2 .left))
 
 pub moved-word-spec : {M : Type 1} → statement M
 moved-word-spec =

@@ -37,19 +37,20 @@ loop-less : tie.Need-loop-less Inv-loop μ-loop
 loop-less c = omega arith
 
 loop-again : tie.Need-loop-again Inv-loop μ-loop
-loop-again c = (
-  c .before .loop .inv .0 ∙ laid-on _ _ _ (upFrom (c .before .before .args .first) 8) (c .before .loop .k) _ (omega (
-    arith,
-    length-upFrom
-        (c .before .before .args .first) 8,
-  )) (omega arith) (name-at _ _ (omega arith)),
-  omega arith,
-)
+loop-again c =
+    let l = c .before .loop in
+    let first = c .before .before .args .first in (
+      l .inv .0
+          ∙ laid-on _ _ _ (upFrom first 8) (l .k) _ (omega (arith, length-upFrom first 8)) (omega arith) (name-at _ _ (omega arith)),
+      omega arith,
+    )
 
 returns : tie.Need-returns Inv-loop μ-loop
 returns c =
-    sym (c .before .loop .inv .0 ∙ laid-end _ _ (upFrom (c .before .before .args .first) 8) (c .before .loop .k) (omega
-    (arith, length-upFrom (c .before .before .args .first) 8))) ∙ names-all _ _ (c .before .before .pre .1)
+    let l = c .before .loop in
+    let s = c .before .before in
+    let first = s .args .first in
+    sym (l .inv .0 ∙ laid-end _ _ (upFrom first 8) (l .k) (omega (arith, length-upFrom first 8))) ∙ names-all _ _ (s .pre .1)
 
 pub name-all-spec : {M : Type 1} → statement M
 name-all-spec =

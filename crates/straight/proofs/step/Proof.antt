@@ -1,27 +1,41 @@
--- `straight::step` meets its contract.
+-- `straight::step` meets its contract: a law for each kind of instruction.
+use mathlib.Core.Path.{_≡_}
 use native.Mathlib.Omega.{arith}
 use denote.Ref.{now}
 use borrow.Author.Needs.{needs}
 use Rattle.fits.proofs.Numbers.{frames-at}
-use Rattle.straight.proofs.Steps.{fresh-is, plain-constant, plain-copy, plain-move, step-copy, step-constant, step-move, step-arithmetic}
+use Rattle.straight.proofs.Steps.{Parts, fresh-is, step-copy, step-constant, step-move, step-arithmetic}
 use Rattle.straight.proofs.step.Statement.{statement}
 use Rattle.straight.proofs.step.Tie as tie
+
+-- ---- places: the word's parts read, past opcodes 1 and 2, a type word moved
+
+abbrev start : tie.After-c → tie.Start
+start c = c .before .before .before .before .before .before .before
+
+abbrev third : tie.Else3 → tie.After-c
+third c = c .before .before
+
+abbrev moved : tie.After-fresh3 → tie.After-moved-word
+moved c = c .before .before .before .before .before .before
+
+parts : (c : tie.After-c) → Parts (start c .args .word) (c .before .before .a .result) (c .before .b .result) (c .c .result)
+parts c = record { a-is = c .before .before .a .ensures .0; b-is = c .before .b .ensures .0; c-is = c .c .ensures .0 }
+
+goes-on : (c : tie.After-c) → start c .args .s .number ≡ 0
+goes-on c = start c .pre .2 .goes-on
+
+-- ---- the needs
 
 opcode-requires : tie.Need-opcode-requires
 opcode-requires c κs = search needs
 
 access-requires : tie.Need-access-requires
-access-requires c κs = (
-  omega arith,
-  c .before .before .before .before .before .before .before .before .before .before .pre .1,
-  c .before .before .before .before .before .before .before .before .before .before .pre .2,
-  c .before .before .before .before .before .before .before .before .before .before .pre .3,
-  c .before .before .before .before .before .before .before .before .before .before .pre .4,
-  c .before .before .before .before .before .before .before .before .before .before .pre .5,
-  c .before .before .before .before .before .before .before .before .before .before .pre .6,
-  c .before .before .before .before .before .before .before .before .before .before .pre .7,
-  c .before .before .before .before .before .before .before .before .before .before .pre .8,
-)
+access-requires c κs =
+    let t = c .before .before .before .before .before .before in
+    let s = t .before .before .before .before in
+    let f = s .pre .0 in
+    (record { from = omega arith; to = f .to; a-exists = f .a-exists; b-exists = f .b-exists }, s .pre .1, s .pre .2)
 
 returns : tie.Need-returns
 returns c = search needs
@@ -42,15 +56,13 @@ fresh-requires : tie.Need-fresh-requires
 fresh-requires c κs = search needs
 
 returns-2 : tie.Need-returns-2
-returns-2 c = (
-  λ place. step-constant _ _ _ _ _ _ 0 _ _
-      (c .before .before .before .before .before .before .before .before .before .before .before .before .before .pre .5) _
-      (plain-constant _ _ _ _ (c .before .before .before .before .before .before .before .before .a .ensures .0)
-      (c .before .before .before .before .before .before .before .b .ensures .0)
-      (c .before .before .before .before .before .before .c .ensures .0) (omega arith)) (fresh-is _ _ _ _ _ _ _ _ _ _ _ _ _ _ _ _ _
-      (c .fresh .ensures .0) (c .fresh .ensures .1) (c .fresh .ensures .2) (c .fresh .ensures .3)),
-  omega arith,
-)
+returns-2 c =
+    let k = c .before .before .before .before .before .before in (
+      λ place.
+          step-constant (parts k) _ _ _ _ _ (goes-on k) _ (omega arith)
+          (fresh-is _ _ _ _ _ _ _ _ _ _ _ _ _ _ _ _ _ (c .fresh .ensures)),
+      omega arith,
+    )
 
 element-copy-out-registers : tie.Need-element-copy-out-registers
 element-copy-out-registers c = search needs
@@ -59,25 +71,19 @@ element-write-registers : tie.Need-element-write-registers
 element-write-registers c = search needs
 
 returns-3 : tie.Need-returns-3
-returns-3 c = (
-  λ place. step-copy _ _ _ _ _ _ _ 0 _ (c .before .before .before .before .before .before .before .before .before .before .pre .5)
-      (plain-copy _ _ _ _ (c .before .before .before .before .before .a .ensures .0) (c .before .before .before .before .b .ensures .0)
-      (c .before .before .before .c .ensures .0) (omega arith)),
-  omega arith,
-)
+returns-3 c = let k = c .before .before .before in (λ place. step-copy (parts k) _ _ _ _ _ (goes-on k) (omega arith), omega arith)
 
 fresh-requires-2 : tie.Need-fresh-requires-2
 fresh-requires-2 c κs = search needs
 
 returns-4 : tie.Need-returns-4
-returns-4 c = (
-  λ place. step-arithmetic _ _ _ _ _ _ 0 0 _
-      (c .before .before .before .before .before .before .before .before .before .before .before .before .before .before .before .pre .5) _
-      (omega arith) (omega arith) (c .before .before .before .before .before .before .before .before .before .before .a .ensures .0)
-      (fresh-is _ _ _ _ _ _ _ _ _ _ _ _ _ _ _ _ _ (c .fresh2 .ensures .0) (c .fresh2 .ensures .1) (c .fresh2 .ensures .2)
-      (c .fresh2 .ensures .3)),
-  omega arith,
-)
+returns-4 c =
+    let k = third (c .before .before .before .before .before .before) in (
+      λ place.
+          step-arithmetic (parts k) _ _ _ _ _ (goes-on k) _ (omega arith) (omega arith)
+          (fresh-is _ _ _ _ _ _ _ _ _ _ _ _ _ _ _ _ _ (c .fresh2 .ensures)),
+      omega arith,
+    )
 
 element-copy-out-index : tie.Need-element-copy-out-index
 element-copy-out-index c = search needs
@@ -101,11 +107,15 @@ fresh-requires-3 : tie.Need-fresh-requires-3
 fresh-requires-3 c κs = search needs
 
 returns-5 : tie.Need-returns-5
-returns-5 c = (
-  λ place. step-move _ _ _ _ _ _ _ _ _
-      (c .before .before .before .before .before .before .before .before .before .before .before .before .before .before .before .before .before .before .before .before .pre .5) _ (plain-move _ _ _ _ (c .before .before .before .before .before .before .before .before .before .before .before .before .before .before .before .a .ensures .0) (c .before .before .before .before .before .before .before .before .before .before .before .before .before .before .b .ensures .0) (c .before .before .before .before .before .before .before .before .before .before .before .before .before .c .ensures .0) (omega arith)) _ _ _ (c .before .before .before .before .before .before .before .before .index .ensures .0) (c .before .before .before .before .before .before .moved-word .ensures _) (frames-at (now (c .before .before .before .before .before .before .before .before .before .before .before .before .before .before .before .before .before .before .before .before .args .frames)) _) (fresh-is _ _ _ _ _ _ _ _ _ _ _ _ _ _ _ _ _ (c .fresh3 .ensures .0) (c .fresh3 .ensures .1) (c .fresh3 .ensures .2) (c .fresh3 .ensures .3)),
-  omega arith,
-)
+returns-5 c =
+    let m = moved c in
+    let i = m .before .before in
+    let k = third (i .before .before .before) in (
+      λ place.
+          step-move (parts k) _ _ _ _ _ (goes-on k) _ (omega arith) _ _ _ (i .index .ensures .0) (m .moved-word .ensures _)
+          (frames-at (now (start k .args .frames)) _) (fresh-is _ _ _ _ _ _ _ _ _ _ _ _ _ _ _ _ _ (c .fresh3 .ensures)),
+      omega (arith, goes-on k),
+    )
 
 pub step-spec : {M : Type 1} → statement M
 step-spec =

@@ -1,12 +1,36 @@
 -- `straight::store` meets its contract.
-use mathlib.Core.Path.{ap}
+use mathlib.Core.Path.{_≡_}
+use mathlib.Core.Bool.{true, not}
+use Prim.Native.Nat.{ℕ, _*_, _+_, _≤_}
 use native.Mathlib.Omega.{arith}
+use denote.Ref.{now}
+use lib.Dec.{ltb, eqb}
+use lib.ListN.{length}
 use borrow.Author.Needs.{needs}
-use Rattle.straight.specs.declared.Progress.{Progress}
+use Rattle.model.specs.Question.{_or_}
 use Rattle.model.proofs.Logic.{told-no, told-yes}
-use Rattle.straight.proofs.Steps.{store-other, store-closes, store-holds, part-is, part-length, row-words}
+use Rattle.straight.proofs.Steps.{number-of, store-other, store-closes, store-holds, part-is, part-length, row-words}
 use Rattle.straight.proofs.store.Statement.{statement}
 use Rattle.straight.proofs.store.Tie as tie
+
+-- ---- places: the type's row read, past Q12, and the field put
+
+abbrev start : tie.After-row → tie.Start
+start c = c .before .before .before .before .before .before
+
+abbrev rowed : tie.After-put → tie.After-row
+rowed c = c .before .before .before .before
+
+row-exists : (c : tie.After-row) → start c .args .x .t * 9 + 9 ≤ length (now (start c .args .types))
+row-exists c = start c .pre .3
+
+abbrev base : tie.After-row → ℕ
+base c = start c .args .s .base
+
+may-touch : (c : tie.After-row) → (not (ltb (base c) 256) or eqb (base c) (start c .args .x .v)) ≡ true
+may-touch c = let e = c .before .before in told-yes (e .before .may-touch .ensures) (e .if1 .left)
+
+-- ---- the needs
 
 may-touch-requires : tie.Need-may-touch-requires
 may-touch-requires c κs = search needs
@@ -15,11 +39,15 @@ refused-requires : tie.Need-refused-requires
 refused-requires c κs = search needs
 
 returns : tie.Need-returns
-returns c = (
-  λ place registers views. store-other _ _ _ _ _ _ _ _ (told-no (c .before .before .may-touch .ensures) (c .before .if1 .taken)) _
-      (ap (λ (p : Progress). p .number) (c .refused .ensures)) _,
-  omega (arith, (ap (λ (p : Progress). p .number) (c .refused .ensures))),
-)
+returns c =
+    let t = c .before in
+    let n = number-of (c .refused .ensures) in (
+      λ place registers views. store-other _ _ _ _ _ _ _ _ (told-no (t .before .may-touch .ensures) (t .if1 .taken)) _ n _,
+      omega arith,
+    )
+
+cast-row : tie.Need-cast-row
+cast-row c = search needs
 
 row-requires : tie.Need-row-requires
 row-requires c κs = search needs
@@ -28,38 +56,40 @@ cast-born : tie.Need-cast-born
 cast-born c = search needs
 
 sub-put : tie.Need-sub-put
-sub-put c =
-    let z = row-words _ _ _ (omega arith) (c .before .row .ensures) in
-    omega arith
+sub-put c = let r = c .before .before in omega (arith, row-words _ _ _ (row-exists r) (r .row .ensures))
 
 part-put-start : tie.Need-part-put-start
-part-put-start c =
-    let z = row-words _ _ _ (omega arith) (c .before .row .ensures) in
-    omega arith
+part-put-start c = let r = c .before .before in omega (arith, row-words _ _ _ (row-exists r) (r .row .ensures))
 
 part-put-end : tie.Need-part-put-end
 part-put-end c = search needs
 
 put-requires : tie.Need-put-requires
-put-requires c κs =
-    let z = part-length _ _ _ (omega arith) (c .before .before .row .ensures) in
-    omega arith
+put-requires c κs = let r = c .before .before .before in omega (arith, part-length _ _ _ (row-exists r) (r .row .ensures))
 
 returns-2 : tie.Need-returns-2
-returns-2 c = (
-  λ place registers views. store-closes _ _ _ _ _ _ _ _ _ _ _ _ _ _ _ _ _ (told-yes (c .before .before .before .before .before .before .may-touch .ensures)
-      (c .before .before .before .before .before .if1 .left)) _ _ (c .before .before .before .before .before .before .before .before .before .pre .0) (part-is _ _ _ (c .before .before .before .before .row .ensures)) (c .before .put .ensures .1 _)
-      _ (c .before .put .ensures .0) (c .if2 .taken),
-  omega arith,
-)
+returns-2 c =
+    let p = c .before in
+    let r = rowed p in (
+      λ place registers views.
+          store-closes _ _ _ _ _ _ _ _ _ _ _ _ _ _ _ _ _ (may-touch r) _ _ (start r .pre .0) (part-is _ _ _ (r .row .ensures))
+          (p .put .ensures .1 _) _ (p .put .ensures .0) (c .if2 .taken),
+      omega arith,
+    )
+
+cast-base : tie.Need-cast-base
+cast-base c = search needs
 
 returns-3 : tie.Need-returns-3
-returns-3 c = (
-  λ place registers views. store-holds _ _ _ _ _ _ _ _ _ _ _ _ _ _ _ _ _ (told-yes (c .before .before .before .before .before .before .may-touch .ensures)
-      (c .before .before .before .before .before .if1 .left)) _ _ (c .before .before .before .before .before .before .before .before .before .pre .0) (part-is _ _ _ (c .before .before .before .before .row .ensures)) (c .before .put .ensures .1 _)
-      _ (c .before .put .ensures .0) (c .if2 .left),
-  omega arith,
-)
+returns-3 c =
+    let e = c .before in
+    let p = e .before in
+    let r = rowed p in (
+      λ place registers views.
+          store-holds _ _ _ _ _ _ _ _ _ _ _ _ _ _ _ _ _ (may-touch r) _ _ (start r .pre .0) (part-is _ _ _ (r .row .ensures))
+          (p .put .ensures .1 _) _ (p .put .ensures .0) (e .if2 .left),
+      omega arith,
+    )
 
 pub store-spec : {M : Type 1} → statement M
 store-spec =
@@ -68,6 +98,7 @@ store-spec =
     may-touch-requires
     refused-requires
     returns
+    cast-row
     row-requires
     cast-born
     sub-put
@@ -75,4 +106,5 @@ store-spec =
     part-put-end
     put-requires
     returns-2
+    cast-base
     returns-3)

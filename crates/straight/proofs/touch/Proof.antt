@@ -1,13 +1,55 @@
 -- `straight::touch` meets its contract.
-use mathlib.Core.Path.{refl, sym, ap, _∙_}
+use mathlib.Core.Path.{_≡_, refl, sym, _∙_}
+use mathlib.Core.List.{List}
+use Prim.Native.Nat.{ℕ, _*_, _+_, _≤_, _<_}
 use native.Mathlib.Omega.{arith}
 use denote.Ref.{now}
+use lib.ListN.{length}
 use borrow.Author.Needs.{needs}
-use Rattle.straight.specs.declared.Progress.{Progress}
+use Rattle.model.specs.Table.{tablesOf, headOf}
 use Rattle.table.proofs.Laws.{tables-size}
-use Rattle.straight.proofs.Steps.{touch-offset, touch-load, touch-store}
+use Rattle.straight.proofs.Steps.{number-of, touch-offset, touch-load, touch-store}
 use Rattle.straight.proofs.touch.Statement.{statement}
 use Rattle.straight.proofs.touch.Tie as tie
+
+-- ---- places: the size known, past Q11, the fields at hand, and a store's place
+
+abbrev start : tie.After-size → tie.Start
+start c = c .before .before .before
+
+abbrev sized : tie.Else1 → tie.After-size
+sized c = c .before .before
+
+abbrev inside : tie.After-look → tie.Else1
+inside c = c .before .before .before .before .before .before
+
+abbrev stores : tie.After-store-arg4 → tie.Else2
+stores c = c .before .before .before .before .before
+
+-- ---- the record's type and size
+
+abbrev types : tie.After-size → List ℕ
+types c = now (start c .args .types)
+
+abbrev type : tie.After-size → ℕ
+type c = start c .args .x .t
+
+size-is : (c : tie.After-size) (tags : List ℕ) → c .size .result ≡ tablesOf (types c) tags .size (type c)
+size-is c tags = c .size .ensures .0 ∙ sym (tables-size (types c) tags (type c))
+
+record Sized (c : tie.Else1) : Type 0 where
+  size : sized c .size .result ≡ headOf (types (sized c)) (type (sized c))
+  most : sized c .size .result ≤ 8
+  offset : start (sized c) .args .x .c < sized c .size .result
+  row-exists : type (sized c) * 9 + 9 ≤ length (types (sized c))
+
+known : (c : tie.Else1) → Sized c
+known c =
+    let s = sized c in
+    let e = s .size .ensures .0 in
+    record { size = e; most = omega (arith, start s .pre .2 .small (type s)); offset = omega arith; row-exists = s .size .ensures .1 (omega arith) }
+
+-- ---- the needs
 
 size-requires : tie.Need-size-requires
 size-requires c κs = search needs
@@ -16,49 +58,46 @@ refused-requires : tie.Need-refused-requires
 refused-requires c κs = search needs
 
 returns : tie.Need-returns
-returns c = (
-  λ place. touch-offset _ _ _ _ _ _ _ _ _ _ (c .before .before .size .ensures .0 ∙ sym (tables-size _ _ _)) (omega arith) _ (ap (λ
-      (p : Progress). p .number) (c .refused .ensures)) _,
-  omega (arith, (ap (λ (p : Progress). p .number) (c .refused .ensures))),
-)
+returns c =
+    let s = c .before .before .before in
+    let n = number-of (c .refused .ensures) in
+    (λ place. touch-offset _ _ _ _ _ _ _ _ _ _ (size-is s _) (omega arith) _ n _, omega arith)
 
 look-requires : tie.Need-look-requires
-look-requires c κs =
-    let z = c .before .before .before .before .before .before .size .ensures .1 (omega arith) in
-    let y = c .before .before .before .before .before .before .before .before .before .pre .5 (c .before .before .before .before .before .before .before .before .before .args .t) in
-    let x = c .before .before .before .before .before .before .size .ensures .0 in
-    omega arith
+look-requires c κs = omega (arith, known (c .before .before .before .before .before))
 
 load-requires : tie.Need-load-requires
-load-requires c κs =
-    let z = c .before .before .before .before .before .before .before .before .before .before .size .ensures .1 (omega arith) in
-    let y = c .before .before .before .before .before .before .before .before .before .before .before .before .before .pre .5 (c .before .before .before .before .before .before .before .before .before .before .before .before .before .args .t) in
-    let x = c .before .before .before .before .before .before .before .before .before .before .size .ensures .0 in
-    omega arith
+load-requires c κs = omega (arith, known (inside (c .before .before .before)))
 
 returns-2 : tie.Need-returns-2
-returns-2 c = (
-  λ place. c .load .ensures .0 place _ _ _ _ _ _ ∙ touch-load _ _ _ _ _ _ _ _ _ _ (c .before .before .before .before .before .before .before .before .before .before .before .size .ensures .0 ∙ sym (tables-size _ _ _)) (omega arith) _
-      (c .before .before .before .before .look .ensures (now (c .before .before .before .before .before .before .before .before .before .before .before .before .before .before .args .registers)) _) refl (c .before .before .before .if2 .taken),
-  c .load .ensures .1,
-)
+returns-2 c =
+    let t = c .before .before .before in
+    let l = t .before in
+    let i = inside l in
+    let s = sized i in (
+      λ place.
+          c .load .ensures .0 place _ _ _ _ _ _
+          ∙ touch-load _ _ _ _ _ _ _ _ _ _ (size-is s _) (known i .offset) _ (l .look .ensures (now (start s .args .registers)) _) refl (t .if2 .taken),
+      c .load .ensures .1,
+    )
 
-element-copy-out-x : tie.Need-element-copy-out-x
-element-copy-out-x c = search needs
+element-copy-out-value : tie.Need-element-copy-out-value
+element-copy-out-value c = search needs
 
 store-requires : tie.Need-store-requires
-store-requires c κs =
-    let z = c .before .before .before .before .before .before .before .before .before .before .before .before .before .size .ensures .1 (omega arith) in
-    let y = c .before .before .before .before .before .before .before .before .before .before .before .before .before .before .before .before .pre .5 (c .before .before .before .before .before .before .before .before .before .before .before .before .before .before .before .before .args .t) in
-    let x = c .before .before .before .before .before .before .before .before .before .before .before .before .before .size .ensures .0 in
-    (x, omega arith, omega arith, omega arith, omega arith)
+store-requires c κs = let k = known (inside (stores c .before)) in (k .size, k .most, k .offset, k .row-exists, omega arith)
 
 returns-3 : tie.Need-returns-3
-returns-3 c = (
-  λ place. c .store .ensures .0 place _ _ ∙ touch-store _ _ _ _ _ _ _ _ _ _ (c .before .before .before .before .before .before .before .before .before .before .before .before .before .before .size .ensures .0 ∙ sym (tables-size _ _ _)) (omega arith) _
-      (c .before .before .before .before .before .before .before .look .ensures (now (c .before .before .before .before .before .before .before .before .before .before .before .before .before .before .before .before .before .args .registers)) _) refl (c .before .before .before .before .before .before .if2 .left),
-  c .store .ensures .1,
-)
+returns-3 c =
+    let e = stores (c .before) in
+    let l = e .before in
+    let i = inside l in
+    let s = sized i in (
+      λ place.
+          c .store .ensures .0 place _ _
+          ∙ touch-store _ _ _ _ _ _ _ _ _ _ (size-is s _) (known i .offset) _ (l .look .ensures (now (start s .args .registers)) _) refl (e .if2 .left),
+      c .store .ensures .1,
+    )
 
 pub touch-spec : {M : Type 1} → statement M
 touch-spec =
@@ -70,6 +109,6 @@ touch-spec =
     look-requires
     load-requires
     returns-2
-    element-copy-out-x
+    element-copy-out-value
     store-requires
     returns-3)

@@ -165,7 +165,7 @@ early-requires : tie.Need-early-requires Inv-loop μ-loop
 early-requires c κs =
     let r = inside (c .before) .before in
     let p = begun r .pre in
-    (p .0, omega arith, r .loop .inv .1, r .loop .inv .2, p .8, p .9)
+    (p .0, omega arith, record { goes-on = r .loop .inv .1; eight = r .loop .inv .2; whole = p .8; small = p .9 })
 
 add-refused-at : tie.Need-add-refused-at Inv-loop μ-loop
 add-refused-at c = omega arith
