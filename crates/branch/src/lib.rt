@@ -13,7 +13,7 @@ ghost use Rattle.model.specs.Check.{readEdges};
 ghost use Rattle.instruction.specs.Rows.{opcodeRows};
 ghost use Rattle.fits.specs.Numbers.{valuesOf, tablesIn, valuesIn};
 ghost use Rattle.straight.specs.State.{numbered};
-ghost use Rattle.branch.specs.End.{routineIn, readingIn, retyped, pastZero, endOf, lastAsk};
+ghost use Rattle.branch.specs.End.{routineIn, readingIn, retyped, pastZero, nextKind, endOf, lastAsk};
 use straight::NO_BASE;
 
 // Numbers of the questions asked of code.
@@ -44,21 +44,38 @@ fn not_zero(words: &[u32; 256], v: u8, k: u32) -> u32
     w
 }
 
+// The type word of v: of this kind and with u known equal to the dependency x, the next kind.
+fn next_kind(
+    words: &[u32; 256],
+    frames: &[u8; 32],
+    constants: &[u32; 32],
+    v: u8,
+    u: u32,
+    kind: u32,
+    x: u32,
+) -> u32
+    requires { ⌜ (u < 256) × (kind < 255) × (x < 256) ⌝ }
+    ensures { λ r. ⌜ r ≡ nextKind (valuesIn words frames constants 0 0) v u kind x ⌝ }
+{
+    let w = words[v as usize];
+    if word::kind(w) != kind {
+        return w;
+    }
+    let d = fits::dependency(frames, v as u32, x);
+    if !fits::known_equal(words, frames, constants, 0, 0, u, d) {
+        return w;
+    }
+    word::with_kind(kind + 1, w)
+}
+
 // The type word of v past a taken opcode 12: From with u known equal to its end is In.
 fn below(words: &[u32; 256], frames: &[u8; 32], constants: &[u32; 32], v: u8, u: u32) -> u32
     requires { ⌜ u < 256 ⌝ }
     ensures { λ r. ⌜ retyped (now (words .entry)) (now (frames .entry)) (now (constants .entry)) v r
         ≡ below (valuesIn words frames constants 0 0) v u (typed (valuesIn words frames constants 0 0) v) ⌝ }
 {
-    let w = words[v as usize];
-    if word::kind(w) != word::FROM {
-        return w;
-    }
-    let e = fits::dependency(frames, v as u32, word::second_dependency(w));
-    if !fits::known_equal(words, frames, constants, 0, 0, u, e) {
-        return w;
-    }
-    word::with_kind(word::IN, w)
+    let end = word::second_dependency(words[v as usize]);
+    next_kind(words, frames, constants, v, u, word::FROM, end)
 }
 
 // The type word of v past an untaken opcode 12: Run with u known equal to its start is From.
@@ -67,15 +84,8 @@ fn not_below(words: &[u32; 256], frames: &[u8; 32], constants: &[u32; 32], v: u8
     ensures { λ r. ⌜ retyped (now (words .entry)) (now (frames .entry)) (now (constants .entry)) v r
         ≡ notBelow (valuesIn words frames constants 0 0) v u (typed (valuesIn words frames constants 0 0) v) ⌝ }
 {
-    let w = words[v as usize];
-    if word::kind(w) != word::RUN {
-        return w;
-    }
-    let d = fits::dependency(frames, v as u32, word::first_dependency(w));
-    if !fits::known_equal(words, frames, constants, 0, 0, u, d) {
-        return w;
-    }
-    word::with_kind(word::FROM, w)
+    let start = word::first_dependency(words[v as usize]);
+    next_kind(words, frames, constants, v, u, word::RUN, start)
 }
 
 // ---- edges

@@ -1,24 +1,51 @@
--- `branch::edges` meets its contract.
-use mathlib.Core.Path.{refl, _∙_}
+-- `branch::edges` meets its contract: a law for each end.
+use mathlib.Core.Path.{_≡_, refl, _∙_}
+use mathlib.Core.List.{List}
+use Prim.Native.Nat.{ℕ}
 use native.Mathlib.Omega.{arith}
 use denote.Ref.{now}
 use borrow.Author.Needs.{needs}
 use native.Mathlib.Numerals.{add-one}
 use borrow.Author.Tests.{not-true, not-false}
+use Rattle.model.specs.Word.{opcodeOf, aOf, cOf}
 use Rattle.branch.proofs.Ends.{end-halt, end-jump, end-equal, end-less, edges-as, edges-halt, jump-no, jump-yes, jump-row, equal-rows}
 use Rattle.branch.proofs.Ends.{less-rows}
 use Rattle.branch.proofs.edges.Statement.{statement}
 use Rattle.branch.proofs.edges.Tie as tie
 
+-- ---- places: the word's parts read, and a jump
+
+abbrev start : tie.After-c → tie.Start
+start c = c .before .before .before .before .before .before
+
+abbrev read : tie.Else3 → tie.After-c
+read c = c .before .before
+
+-- ---- what is known of the word
+
+abbrev word : tie.After-c → ℕ
+word c = start c .args .word
+
+abbrev blocks : tie.After-c → List ℕ
+blocks c = now (start c .args .blocks)
+
+a-is : (c : tie.After-c) → c .before .a .result ≡ aOf (word c)
+a-is c = c .before .a .ensures .0
+
+c-is : (c : tie.After-c) → c .c .result ≡ cOf (word c)
+c-is c = c .c .ensures .0
+
+jumps : (c : tie.Else3) → opcodeOf (word (read c)) ≡ 10
+jumps c = let h = start (read c) .pre .3 (omega arith) in omega arith
+
+-- ---- the needs
+
 opcode-requires : tie.Need-opcode-requires
 opcode-requires c κs = search needs
 
 returns : tie.Need-returns
-returns c = (
-  λ place types code views fields since base. edges-halt _ _ _ _ _ _ _ _ _ _ _ _ _ _ ∙ edges-as _ _ _ _ _ _ _ _ _ _ _ _ _ _ _ _ _
-      (end-halt _ (omega arith)) refl,
-  omega arith,
-)
+returns c =
+    (λ place types code views fields since base. edges-halt _ _ _ _ _ _ ∙ edges-as (end-halt _ (omega arith)) refl _ _ _ _, omega arith)
 
 a-requires : tie.Need-a-requires
 a-requires c κs = search needs
@@ -34,16 +61,18 @@ add-equal-edges c = search needs
 
 equal-edges-requires : tie.Need-equal-edges-requires
 equal-edges-requires c κs =
-    let z = equal-rows (now (c .before .before .before .before .before .before .before .before .args .blocks)) (c .before .before .before .before .before .before .before .before .args .word) (c .before .before .before .before .before .before .before .before .args .b) (c .before .before .before .before .before .before .before .before .pre .5) _ (c .before .before .c .ensures .0) _ (c .before .before .before .a .ensures .0) (omega arith) in
-    (omega arith, omega arith, z .0, z .1)
+    let k = c .before .before in
+    let (t, n) = equal-rows (blocks k) (word k) (start k .args .b) (start k .pre .5) _ (c-is k) _ (a-is k) (omega arith) in
+    (omega arith, omega arith, t, n)
 
 returns-2 : tie.Need-returns-2
-returns-2 c = (
-  λ place types code views fields since base. c .equal-edges .ensures .0 place types code views fields since base ∙ edges-as _ _ _ _ _ _
-      _ _ _ _ _ _ _ _ _ _ _ (end-equal _ _ (c .before .before .before .c .ensures .0) _ (c .before .before .before .before .a .ensures .0)
-      (omega arith)) (add-one _),
-  c .equal-edges .ensures .1,
-)
+returns-2 c =
+    let k = c .before .before .before in (
+      λ place types code views fields since base.
+          c .equal-edges .ensures .0 place types code views fields since base
+          ∙ edges-as (end-equal _ _ (c-is k) _ (a-is k) (omega arith)) (add-one _) _ _ _ _,
+      c .equal-edges .ensures .1,
+    )
 
 b-requires : tie.Need-b-requires
 b-requires c κs = search needs
@@ -56,45 +85,46 @@ add-less-edges c = search needs
 
 less-edges-requires : tie.Need-less-edges-requires
 less-edges-requires c κs =
-    let z = less-rows (now (c .before .before .before .before .before .before .before .before .before .before .args .blocks)) (c .before .before .before .before .before .before .before .before .before .before .args .word) (c .before .before .before .before .before .before .before .before .before .before .args .b) (c .before .before .before .before .before .before .before .before .before .before .pre .5) _ (c .before .before .before .before .c .ensures .0) _ (c .before .before .before .before .before .a .ensures .0) _ (c .b .ensures .0) (omega arith) in
-    (omega arith, omega arith, z .0, z .1)
+    let k = c .before .before .before .before in
+    let (t, n) = less-rows (blocks k) (word k) (start k .args .b) (start k .pre .5) _ (c-is k) _ (a-is k) _ (c .b .ensures .0) (omega arith) in
+    (omega arith, omega arith, t, n)
 
 returns-3 : tie.Need-returns-3
-returns-3 c = (
-  λ place types code views fields since base. c .less-edges .ensures .0 place types code views fields since base ∙ edges-as _ _ _ _ _ _ _
-      _ _ _ _ _ _ _ _ _ _ (end-less _ _ (c .before .before .before .before .before .c .ensures .0) _
-      (c .before .before .before .before .before .before .a .ensures .0) _ (c .before .b .ensures .0) (omega arith))
-      (add-one _),
-  c .less-edges .ensures .1,
-)
+returns-3 c =
+    let b = c .before in
+    let k = b .before .before .before .before in (
+      λ place types code views fields since base.
+          c .less-edges .ensures .0 place types code views fields since base
+          ∙ edges-as (end-less _ _ (c-is k) _ (a-is k) _ (b .b .ensures .0) (omega arith)) (add-one _) _ _ _ _,
+      c .less-edges .ensures .1,
+    )
 
 cast-edge : tie.Need-cast-edge
 cast-edge c = search needs
 
 edge-requires : tie.Need-edge-requires
 edge-requires c κs =
-    let h = c .before .before .before .before .before .before .before .before .before .pre .3 (omega arith) in
-    jump-row (now (c .before .before .before .before .before .before .before .before .before .args .blocks))
-    (c .before .before .before .before .before .before .before .before .before .args .word)
-    (c .before .before .before .before .before .before .before .before .before .args .b)
-    (c .before .before .before .before .before .before .before .before .before .pre .5) _ (c .before .before .before .c .ensures .0)
-    (omega arith)
+    let j = c .before in
+    let k = read j in
+    jump-row (blocks k) (word k) (start k .args .b) (start k .pre .5) _ (c-is k) (jumps j)
 
 returns-4 : tie.Need-returns-4
 returns-4 c =
-    let h = c .before .before .before .before .before .before .before .before .before .before .before .pre .3 (omega arith) in (
-      λ place types code views fields since base. jump-no _ _ _ _ _ _ _ _ _ _ _ _ _ _ _ _ (c .before .edge .ensures types) (not-true _
-          (c .if4 .taken)) ∙ edges-as _ _ _ _ _ _ _ _ _ _ _ _ _ _ _ _ _ (end-jump _ _ (c .before .before .before .before .before .c .ensures .0)
-          (omega arith)) refl,
+    let e = c .before in
+    let j = e .before .before in (
+      λ place types code views fields since base.
+          jump-no _ _ _ _ _ _ _ _ (e .edge .ensures types) (not-true _ (c .if4 .taken))
+          ∙ edges-as (end-jump _ _ (c-is (read j)) (jumps j)) refl _ _ _ _,
       omega arith,
     )
 
 returns-5 : tie.Need-returns-5
 returns-5 c =
-    let h = c .before .before .before .before .before .before .before .before .before .before .before .pre .3 (omega arith) in (
-      λ place types code views fields since base. jump-yes _ _ _ _ _ _ _ _ _ _ _ _ _ _ _ _ (c .before .edge .ensures types) (not-false _
-          (c .if4 .left)) ∙ edges-as _ _ _ _ _ _ _ _ _ _ _ _ _ _ _ _ _ (end-jump _ _ (c .before .before .before .before .before .c .ensures .0)
-          (omega arith)) refl,
+    let e = c .before in
+    let j = e .before .before in (
+      λ place types code views fields since base.
+          jump-yes _ _ _ _ _ _ _ _ (e .edge .ensures types) (not-false _ (c .if4 .left))
+          ∙ edges-as (end-jump _ _ (c-is (read j)) (jumps j)) refl _ _ _ _,
       omega arith,
     )
 

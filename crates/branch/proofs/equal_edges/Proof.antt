@@ -2,9 +2,19 @@
 use native.Mathlib.Omega.{arith}
 use borrow.Author.Needs.{needs}
 use borrow.Author.Tests.{not-true, not-false}
-use Rattle.branch.proofs.Ends.{equal-taken, equal-untaken, equal-both}
+use Rattle.branch.proofs.Ends.{equal-forks, equal-told, equal-past, fork-taken, fork-untaken, fork-both}
 use Rattle.branch.proofs.equal_edges.Statement.{statement}
 use Rattle.branch.proofs.equal_edges.Tie as tie
+
+-- ---- places: the taken edge met, and the value retyped past the untaken one
+
+abbrev first : tie.After-index → tie.Else1
+first c = c .before .before .before
+
+abbrev retyped : tie.After-edge2 → tie.After-index
+retyped c = c .before .before
+
+-- ---- the needs
 
 element-copy-out-v : tie.Need-element-copy-out-v
 element-copy-out-v c = search needs
@@ -19,11 +29,13 @@ edge-requires : tie.Need-edge-requires
 edge-requires c κs = search needs
 
 returns : tie.Need-returns
-returns c = (
-  λ place types code views fields since base. equal-taken _ _ _ _ _ _ _ _ _ _ _ _ _ _ _ _ _ _ _ (c .before .before .wide .ensures .0)
-      (c .before .edge .ensures types) (not-true _ (c .if1 .taken)),
-  omega arith,
-)
+returns c =
+    let e = c .before in (
+      λ place types code views fields since base.
+          fork-taken _ _ _ _ _ _ _ _ (equal-forks _ _ _ _ _ _ _ _ _) _ (equal-told _ _ _ _ _ _ _ _ _ _ _ _ (e .before .wide .ensures .0)) _
+          (e .edge .ensures types) (not-true _ (c .if1 .taken)),
+      omega arith,
+    )
 
 not-zero-requires : tie.Need-not-zero-requires
 not-zero-requires c κs = search needs
@@ -41,26 +53,32 @@ edge-requires-2 : tie.Need-edge-requires-2
 edge-requires-2 c κs = search needs
 
 returns-2 : tie.Need-returns-2
-returns-2 c = (
-  λ place types code views fields since base. equal-untaken _ _ _ _ _ _ _ _ _ _ _ _ _ _ _ _ _ _ _
-      (c .before .before .before .before .before .before .before .before .wide .ensures .0)
-      (c .before .before .before .before .before .before .before .edge .ensures types) (not-false _
-      (c .before .before .before .before .before .before .if1 .left)) _ _ (c .before .before .before .index .ensures .0)
-      (c .before .before .before .before .not-zero .ensures _ _) _ (c .before .edge2 .ensures types) (not-true _
-      (c .if2 .taken)),
-  omega arith,
-)
+returns-2 c =
+    let h = c .before in
+    let i = retyped h in
+    let l = first i in
+    let e = l .before in (
+      λ place types code views fields since base.
+          fork-untaken _ _ _ _ _ _ _ _ (equal-forks _ _ _ _ _ _ _ _ _) _ (equal-told _ _ _ _ _ _ _ _ _ _ _ _ (e .before .wide .ensures .0)) _
+          (e .edge .ensures types) (not-false _ (l .if1 .left)) _
+          (equal-past _ _ _ _ _ _ _ _ _ _ _ _ _ (i .index .ensures .0) (i .before .not-zero .ensures _ _)) _ (h .edge2 .ensures types)
+          (not-true _ (c .if2 .taken)),
+      omega arith,
+    )
 
 returns-3 : tie.Need-returns-3
-returns-3 c = (
-  λ place types code views fields since base. equal-both _ _ _ _ _ _ _ _ _ _ _ _ _ _ _ _ _ _ _
-      (c .before .before .before .before .before .before .before .before .wide .ensures .0)
-      (c .before .before .before .before .before .before .before .edge .ensures types) (not-false _
-      (c .before .before .before .before .before .before .if1 .left)) _ _ (c .before .before .before .index .ensures .0)
-      (c .before .before .before .before .not-zero .ensures _ _) _ (c .before .edge2 .ensures types) (not-false _
-      (c .if2 .left)),
-  omega arith,
-)
+returns-3 c =
+    let h = c .before in
+    let i = retyped h in
+    let l = first i in
+    let e = l .before in (
+      λ place types code views fields since base.
+          fork-both _ _ _ _ _ _ _ _ (equal-forks _ _ _ _ _ _ _ _ _) _ (equal-told _ _ _ _ _ _ _ _ _ _ _ _ (e .before .wide .ensures .0)) _
+          (e .edge .ensures types) (not-false _ (l .if1 .left)) _
+          (equal-past _ _ _ _ _ _ _ _ _ _ _ _ _ (i .index .ensures .0) (i .before .not-zero .ensures _ _)) _ (h .edge2 .ensures types)
+          (not-false _ (c .if2 .left)),
+      omega arith,
+    )
 
 pub equal-edges-spec : {M : Type 1} → statement M
 equal-edges-spec =

@@ -2,9 +2,22 @@
 use native.Mathlib.Omega.{arith}
 use borrow.Author.Needs.{needs}
 use borrow.Author.Tests.{not-true, not-false}
-use Rattle.branch.proofs.Ends.{less-taken, less-untaken, less-both}
+use Rattle.branch.proofs.Ends.{less-forks, less-told, less-past, fork-taken, fork-untaken, fork-both}
 use Rattle.branch.proofs.less_edges.Statement.{statement}
 use Rattle.branch.proofs.less_edges.Tie as tie
+
+-- ---- places: both type words known, and the taken edge met
+
+abbrev wide : tie.After-index → tie.After-wide
+wide c = c .before .before .before .before .before
+
+abbrev below : tie.After-index → tie.After-below
+below c = c .before .before .before
+
+abbrev index : tie.After-edge → tie.After-index
+index c = c .before .before
+
+-- ---- the needs
 
 element-copy-out-v : tie.Need-element-copy-out-v
 element-copy-out-v c = search needs
@@ -34,13 +47,15 @@ edge-requires : tie.Need-edge-requires
 edge-requires c κs = search needs
 
 returns : tie.Need-returns
-returns c = (
-  λ place types code views fields since base. less-taken _ _ _ _ _ _ _ _ _ _ _ _ _ _ _ _ _ _ _ _ _ _
-      (c .before .before .before .before .before .before .before .before .wide .ensures .0) (c .before .before .before .index .ensures .0)
-      (c .before .before .before .before .before .before .below .ensures) (c .before .before .before .before .not-below .ensures)
-      (c .before .edge .ensures types) (not-true _ (c .if1 .taken)),
-  omega arith,
-)
+returns c =
+    let e = c .before in
+    let i = index e in (
+      λ place types code views fields since base.
+          fork-taken _ _ _ _ _ _ _ _ (less-forks _ _ _ _ _ _ _ _ _) _
+          (less-told _ _ _ _ _ _ _ _ _ _ _ _ _ (wide i .wide .ensures .0) (i .index .ensures .0) _ (below i .below .ensures)) _
+          (e .edge .ensures types) (not-true _ (c .if1 .taken)),
+      omega arith,
+    )
 
 mul-words-2 : tie.Need-mul-words-2
 mul-words-2 c = search needs
@@ -52,26 +67,34 @@ edge-requires-2 : tie.Need-edge-requires-2
 edge-requires-2 c κs = search needs
 
 returns-2 : tie.Need-returns-2
-returns-2 c = (
-  λ place types code views fields since base. less-untaken _ _ _ _ _ _ _ _ _ _ _ _ _ _ _ _ _ _ _ _ _ _
-      (c .before .before .before .before .before .before .before .before .before .before .before .wide .ensures .0)
-      (c .before .before .before .before .before .before .index .ensures .0)
-      (c .before .before .before .before .before .before .before .before .before .below .ensures)
-      (c .before .before .before .before .before .before .before .not-below .ensures) (c .before .before .before .before .edge .ensures types)
-      (not-false _ (c .before .before .before .if1 .left)) _ (c .before .edge2 .ensures types) (not-true _ (c .if2 .taken)),
-  omega arith,
-)
+returns-2 c =
+    let h = c .before in
+    let l = h .before .before in
+    let e = l .before in
+    let i = index e in (
+      λ place types code views fields since base.
+          fork-untaken _ _ _ _ _ _ _ _ (less-forks _ _ _ _ _ _ _ _ _) _
+          (less-told _ _ _ _ _ _ _ _ _ _ _ _ _ (wide i .wide .ensures .0) (i .index .ensures .0) _ (below i .below .ensures)) _
+          (e .edge .ensures types) (not-false _ (l .if1 .left)) _
+          (less-past _ _ _ _ _ _ _ _ _ _ _ _ _ (wide i .wide .ensures .0) (i .index .ensures .0) _ _ (i .before .not-below .ensures)) _
+          (h .edge2 .ensures types) (not-true _ (c .if2 .taken)),
+      omega arith,
+    )
 
 returns-3 : tie.Need-returns-3
-returns-3 c = (
-  λ place types code views fields since base. less-both _ _ _ _ _ _ _ _ _ _ _ _ _ _ _ _ _ _ _ _ _ _
-      (c .before .before .before .before .before .before .before .before .before .before .before .wide .ensures .0)
-      (c .before .before .before .before .before .before .index .ensures .0)
-      (c .before .before .before .before .before .before .before .before .before .below .ensures)
-      (c .before .before .before .before .before .before .before .not-below .ensures) (c .before .before .before .before .edge .ensures types)
-      (not-false _ (c .before .before .before .if1 .left)) _ (c .before .edge2 .ensures types) (not-false _ (c .if2 .left)),
-  omega arith,
-)
+returns-3 c =
+    let h = c .before in
+    let l = h .before .before in
+    let e = l .before in
+    let i = index e in (
+      λ place types code views fields since base.
+          fork-both _ _ _ _ _ _ _ _ (less-forks _ _ _ _ _ _ _ _ _) _
+          (less-told _ _ _ _ _ _ _ _ _ _ _ _ _ (wide i .wide .ensures .0) (i .index .ensures .0) _ (below i .below .ensures)) _
+          (e .edge .ensures types) (not-false _ (l .if1 .left)) _
+          (less-past _ _ _ _ _ _ _ _ _ _ _ _ _ (wide i .wide .ensures .0) (i .index .ensures .0) _ _ (i .before .not-below .ensures)) _
+          (h .edge2 .ensures types) (not-false _ (c .if2 .left)),
+      omega arith,
+    )
 
 pub less-edges-spec : {M : Type 1} → statement M
 less-edges-spec =

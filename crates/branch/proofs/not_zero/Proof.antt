@@ -6,6 +6,9 @@ use Rattle.branch.proofs.Ends.{zero-tested, zero-maybe, zero-tagged, ze
 use Rattle.branch.proofs.not_zero.Statement.{statement}
 use Rattle.branch.proofs.not_zero.Tie as tie
 
+abbrev start : tie.After-kind → tie.Start
+start c = c .before .before .before
+
 mul-w : tie.Need-mul-w
 mul-w c = search needs
 
@@ -14,8 +17,8 @@ element-copy-out-w c = search needs
 
 returns : tie.Need-returns
 returns c =
-    λ frames constants. zero-tested (now (c .before .before .args .words)) frames constants (c .before .before .args .v)
-    (c .before .before .args .k) (λ h. omega arith)
+    let s = c .before .before in
+    λ frames constants. zero-tested (now (s .args .words)) frames constants (s .args .v) (s .args .k) (λ h. omega arith)
 
 kind-requires : tie.Need-kind-requires
 kind-requires c κs = search needs
@@ -25,24 +28,30 @@ with-kind-requires c κs = search needs
 
 returns-2 : tie.Need-returns-2
 returns-2 c =
-    λ frames constants. zero-maybe (now (c .before .before .before .before .before .args .words)) frames constants
-    (c .before .before .before .before .before .args .v) (c .before .before .before .before .before .args .k) (omega arith) _ (c .before .before .kind .ensures .0)
-    (omega arith) _ (c .with-kind .ensures)
+    let k = c .before .before in
+    let s = start k in
+    λ frames constants.
+    zero-maybe (now (s .args .words)) frames constants (s .args .v) (s .args .k) (omega arith) _ (k .kind .ensures .0) (omega arith) _
+    (c .with-kind .ensures)
 
 with-kind-requires-2 : tie.Need-with-kind-requires-2
 with-kind-requires-2 c κs = search needs
 
 returns-3 : tie.Need-returns-3
 returns-3 c =
-    λ frames constants. zero-tagged (now (c .before .before .before .before .before .before .args .words)) frames constants
-    (c .before .before .before .before .before .before .args .v) (c .before .before .before .before .before .before .args .k) (omega arith) _
-    (c .before .before .before .kind .ensures .0) (omega arith) _ (c .with-kind2 .ensures)
+    let k = c .before .before .before in
+    let s = start k in
+    λ frames constants.
+    zero-tagged (now (s .args .words)) frames constants (s .args .v) (s .args .k) (omega arith) _ (k .kind .ensures .0) (omega arith) _
+    (c .with-kind2 .ensures)
 
 returns-4 : tie.Need-returns-4
 returns-4 c =
-    λ frames constants. zero-other (now (c .before .before .before .before .before .args .words)) frames constants
-    (c .before .before .before .before .before .args .v) (c .before .before .before .before .before .args .k) (omega arith) _
-    (c .before .before .kind .ensures .0) (λ h. omega arith) (λ h. omega arith)
+    let k = c .before .before in
+    let s = start k in
+    λ frames constants.
+    zero-other (now (s .args .words)) frames constants (s .args .v) (s .args .k) (omega arith) _ (k .kind .ensures .0) (λ h. omega arith)
+    (λ h. omega arith)
 
 pub not-zero-spec : {M : Type 1} → statement M
 not-zero-spec =
