@@ -36,6 +36,13 @@ pub struct Progress {
     pub base: u32,
 }
 
+// An instruction before its block's end: its word, the birthplace of what it makes, and how far the reading is.
+pub struct Fetched {
+    pub word: u32,
+    pub g: usize,
+    pub s: Progress,
+}
+
 fn refused(number: u32, s: Progress) -> Progress
     ensures { λ r. ⌜ r ≡ record { number = number; since = s .since; base = s .base } ⌝ }
 {
@@ -349,7 +356,7 @@ fn touch(
     )
 }
 
-// A load or a store at birthplace g: Q10 to Q12.
+// A load or a store: Q10 to Q12.
 fn access(
     types: &[u32],
     tags: &[u32],
@@ -359,17 +366,17 @@ fn access(
     constants: &mut [u32; 32],
     views: &mut [u8; 256],
     fields: &mut [u8; 8],
-    s: Progress,
-    word: u32,
-    g: usize,
+    i: Fetched,
 ) -> Progress
-    requires { ⌜ Formed 8 word × (g < 32) × Ready (s .number) (now types) (now fields) ⌝ }
+    requires { ⌜ Formed 8 (i .word) × (i .g < 32) × Ready (i .s .number) (now types) (now fields) ⌝ }
     ensures { λ r. ⌜ ((place : Question → Refusal)
         → numbered place (r .number) (after registers words frames constants views fields (r .since) (r .base))
-        ≡ readPlain (tablesIn (now (types .entry)) tags) place g (plainOf word)
-        (before registers words frames constants views fields (s .since) (s .base)))
+        ≡ readPlain (tablesIn (now (types .entry)) tags) place (i .g) (plainOf (i .word))
+        (before registers words frames constants views fields (i .s .since) (i .s .base)))
         × (r .number ≤ 12) ⌝ }
 {
+    let s = i.s;
+    let word = i.word;
     let a = word::a(word);
     let b = word::b(word);
     let c = word::c(word);
@@ -383,7 +390,7 @@ fn access(
         v: v,
         t: t,
         c: c,
-        g: g,
+        g: i.g,
     };
     touch(
         types,
@@ -401,7 +408,7 @@ fn access(
 
 // ---- one instruction
 
-// One instruction before its block's end, at birthplace g.
+// One instruction before its block's end.
 fn step(
     types: &[u32],
     tags: &[u32],
@@ -411,17 +418,16 @@ fn step(
     constants: &mut [u32; 32],
     views: &mut [u8; 256],
     fields: &mut [u8; 8],
-    s: Progress,
-    word: u32,
-    g: usize,
+    i: Fetched,
 ) -> Progress
-    requires { ⌜ Formed 1 word × (g < 32) × Ready (s .number) (now types) (now fields) ⌝ }
+    requires { ⌜ Formed 1 (i .word) × (i .g < 32) × Ready (i .s .number) (now types) (now fields) ⌝ }
     ensures { λ r. ⌜ ((place : Question → Refusal)
         → numbered place (r .number) (after registers words frames constants views fields (r .since) (r .base))
-        ≡ readPlain (tablesIn (now (types .entry)) tags) place g (plainOf word)
-        (before registers words frames constants views fields (s .since) (s .base)))
+        ≡ readPlain (tablesIn (now (types .entry)) tags) place (i .g) (plainOf (i .word))
+        (before registers words frames constants views fields (i .s .since) (i .s .base)))
         × (r .number ≤ 12) ⌝ }
 {
+    let word = i.word;
     let op = word::opcode(word);
     if instruction::LOAD <= op {
         return access(
@@ -433,11 +439,11 @@ fn step(
             constants,
             views,
             fields,
-            s,
-            word,
-            g,
+            i,
         );
     }
+    let s = i.s;
+    let g = i.g;
     let a = word::a(word);
     let b = word::b(word);
     let c = word::c(word);
@@ -460,7 +466,7 @@ fn step(
     s
 }
 
-// Q7 to Q12 of an instruction before its block's end, at birthplace g. It is not asked Q9, so it is of no account which block it is in.
+// Q7 to Q12 of an instruction before its block's end. It is not asked Q9, so it is of no account which block it is in.
 pub fn early(
     rows: &[u32; 13],
     types: &[u32],
@@ -471,19 +477,19 @@ pub fn early(
     constants: &mut [u32; 32],
     views: &mut [u8; 256],
     fields: &mut [u8; 8],
-    s: Progress,
-    word: u32,
-    g: usize,
+    i: Fetched,
 ) -> Progress
-    requires { ⌜ (now rows ≡ opcodeRows) × (g < 32) × Ready (s .number) (now types) (now fields) ⌝ }
+    requires { ⌜ (now rows ≡ opcodeRows) × (i .g < 32) × Ready (i .s .number) (now types) (now fields) ⌝ }
     ensures { λ r. ⌜ ((place : Question → Refusal)
         → numbered place (r .number) (after registers words frames constants views fields (r .since) (r .base))
-        ≡ earlyAsk (tablesIn (now (types .entry)) tags) place g (decode word)
-        (before registers words frames constants views fields (s .since) (s .base)))
+        ≡ earlyAsk (tablesIn (now (types .entry)) tags) place (i .g) (decode (i .word))
+        (before registers words frames constants views fields (i .s .since) (i .s .base)))
         × (r .number ≤ 15) ⌝ }
 {
+    let word = i.word;
     let no = instruction::form(rows, word, false, 0, 0);
     if no != 0 {
+        let s = i.s;
         return refused(no, s);
     }
     step(
@@ -495,8 +501,6 @@ pub fn early(
         constants,
         views,
         fields,
-        s,
-        word,
-        g,
+        i,
     )
 }

@@ -9,6 +9,7 @@ ghost use Rattle.model.specs.Table.{rows, tablesOf, routineOf, headOf, startOf}
 ghost use Rattle.model.specs.Check.{blockAsk, judge, check};
 ghost use Rattle.instruction.specs.Rows.{opcodeRows};
 use model::Verdict;
+use straight::Fetched;
 use straight::NO_BASE;
 use straight::Progress;
 use table::answer;
@@ -48,6 +49,13 @@ fn block(
     let part = &code[first..end];
     let mut j = 0;
     while j + 1 < n {
+        let word = part[j];
+        let g = j + 1;
+        let i = Fetched {
+            word: word,
+            g: g,
+            s: s,
+        };
         s = straight::early(
             rows,
             types,
@@ -58,9 +66,7 @@ fn block(
             &mut constants,
             &mut views,
             &mut fields,
-            s,
-            part[j],
-            j + 1,
+            i,
         );
         let no = s.number;
         if no != 0 {

@@ -9,7 +9,7 @@ use Rattle.straight.proofs.access.Tie as tie
 -- ---- places: the word's parts read, what the reference is to, and the opcode
 
 abbrev start : tie.After-c → tie.Start
-start c = c .before .before .before .before .before
+start c = c .before .before .before .before .before .before
 
 abbrev read : tie.After-reference → tie.After-c
 read c = c .before .before .before .before .before
@@ -17,7 +17,7 @@ read c = c .before .before .before .before .before
 abbrev opcode : tie.After-touch → tie.After-opcode
 opcode c = c .before .before .before .before .before .before .before
 
-parts : (c : tie.After-c) → Parts (start c .args .word) (c .before .before .a .result) (c .before .b .result) (c .c .result)
+parts : (c : tie.After-c) → Parts (start c .args .i .word) (c .before .before .a .result) (c .before .b .result) (c .c .result)
 parts c = record { a-is = c .before .before .a .ensures .0; b-is = c .before .b .ensures .0; c-is = c .c .ensures .0 }
 
 -- ---- the needs

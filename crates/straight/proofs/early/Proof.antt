@@ -25,9 +25,10 @@ refused-requires c κs = search needs
 
 returns : tie.Need-returns
 returns c =
-    let f = c .before .before .form .ensures in
+    let t = c .before .before in
+    let f = t .before .form .ensures in
     let n = number-of (c .refused .ensures) in
-    (λ place. early-no _ _ _ _ _ (c .before .if1 .taken) _ _ _ _ f _ n, omega (arith, form-bound _ _ _ _ _ f))
+    (λ place. early-no _ _ _ _ _ (t .if1 .taken) _ _ _ _ f _ n, omega (arith, form-bound _ _ _ _ _ f))
 
 step-requires : tie.Need-step-requires
 step-requires c κs =

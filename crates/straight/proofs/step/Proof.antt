@@ -8,10 +8,13 @@ use Rattle.straight.proofs.Steps.{Parts, fresh-is, step-copy, step-cons
 use Rattle.straight.proofs.step.Statement.{statement}
 use Rattle.straight.proofs.step.Tie as tie
 
--- ---- places: the word's parts read, past opcodes 1 and 2, a type word moved
+-- ---- places: the opcode read, the word's parts, past opcodes 1 and 2, a type word moved
 
-abbrev start : tie.After-c → tie.Start
-start c = c .before .before .before .before .before .before .before
+abbrev start : tie.After-opcode → tie.Start
+start c = c .before .before .before
+
+abbrev opcode : tie.After-c → tie.After-opcode
+opcode c = c .before .before .before .before .before
 
 abbrev third : tie.Else3 → tie.After-c
 third c = c .before .before
@@ -19,11 +22,11 @@ third c = c .before .before
 abbrev moved : tie.After-fresh3 → tie.After-moved-word
 moved c = c .before .before .before .before .before .before
 
-parts : (c : tie.After-c) → Parts (start c .args .word) (c .before .before .a .result) (c .before .b .result) (c .c .result)
+parts : (c : tie.After-c) → Parts (start (opcode c) .args .i .word) (c .before .before .a .result) (c .before .b .result) (c .c .result)
 parts c = record { a-is = c .before .before .a .ensures .0; b-is = c .before .b .ensures .0; c-is = c .c .ensures .0 }
 
-goes-on : (c : tie.After-c) → start c .args .s .number ≡ 0
-goes-on c = start c .pre .2 .goes-on
+goes-on : (c : tie.After-c) → start (opcode c) .args .i .s .number ≡ 0
+goes-on c = start (opcode c) .pre .2 .goes-on
 
 -- ---- the needs
 
@@ -33,9 +36,8 @@ opcode-requires c κs = search needs
 access-requires : tie.Need-access-requires
 access-requires c κs =
     let t = c .before .before .before .before .before .before in
-    let s = t .before .before .before .before in
-    let f = s .pre .0 in
-    (record { from = omega arith; to = f .to; a-exists = f .a-exists; b-exists = f .b-exists }, s .pre .1, s .pre .2)
+    let (f, g, r) = start (t .before) .pre in
+    (record { from = omega arith; to = f .to; a-exists = f .a-exists; b-exists = f .b-exists }, g, r)
 
 returns : tie.Need-returns
 returns c = search needs
@@ -113,7 +115,7 @@ returns-5 c =
     let k = third (i .before .before .before) in (
       λ place.
           step-move (parts k) _ _ _ _ _ (goes-on k) _ (omega arith) _ _ _ (i .index .ensures .0) (m .moved-word .ensures _)
-          (frames-at (now (start k .args .frames)) _) (fresh-is _ _ _ _ _ _ _ _ _ _ _ _ _ _ _ _ _ (c .fresh3 .ensures)),
+          (frames-at (now (start (opcode k) .args .frames)) _) (fresh-is _ _ _ _ _ _ _ _ _ _ _ _ _ _ _ _ _ (c .fresh3 .ensures)),
       omega (arith, goes-on k),
     )
 

@@ -47,10 +47,10 @@ abbrev begun : tie.At-loop Inv-loop μ-loop → tie.Start Inv-loop μ-loop
 begun c = start (rowed (headed c .before))
 
 abbrev inside : tie.After-fields Inv-loop μ-loop → tie.In-loop Inv-loop μ-loop
-inside c = c .before .before .before .before .before .before
+inside c = c .before .before .before .before .before .before .before
 
 abbrev round : tie.After-early Inv-loop μ-loop → tie.At-loop Inv-loop μ-loop
-round c = inside (c .before .before) .before
+round c = inside (c .before) .before
 
 abbrev finished : tie.After-last Inv-loop μ-loop → tie.At-loop Inv-loop μ-loop
 finished c = c .before .before .before .before .before .before .before
@@ -99,7 +99,7 @@ refused-here c z v e r =
 
 -- an instruction before the last
 early-here : (c : tie.After-early Inv-loop μ-loop) → round c .loop .j + 1 < long (round c)
-early-here c = omega (arith, inside (c .before .before) .loop-test)
+early-here c = omega (arith, inside (c .before) .loop-test)
 
 -- ---- the needs
 
@@ -152,18 +152,18 @@ loop-holds c =
 add-loop : tie.Need-add-loop Inv-loop μ-loop
 add-loop c = omega arith
 
-mul-early : tie.Need-mul-early Inv-loop μ-loop
-mul-early c = omega (arith, part-whole (inside c .before) (omega arith))
+mul-word : tie.Need-mul-word Inv-loop μ-loop
+mul-word c = omega (arith, part-whole (c .before) (omega arith))
 
-shared-slice-read-early : tie.Need-shared-slice-read-early Inv-loop μ-loop
-shared-slice-read-early c = omega (arith, part-whole (inside (c .before) .before) (omega arith))
+shared-slice-read-word : tie.Need-shared-slice-read-word Inv-loop μ-loop
+shared-slice-read-word c = omega (arith, part-whole (c .before .before) (omega arith))
 
-add-early : tie.Need-add-early Inv-loop μ-loop
-add-early c = omega arith
+add-g : tie.Need-add-g Inv-loop μ-loop
+add-g c = omega arith
 
 early-requires : tie.Need-early-requires Inv-loop μ-loop
 early-requires c κs =
-    let r = inside (c .before) .before in
+    let r = inside c .before in
     let p = begun r .pre in
     (p .0, omega arith, record { goes-on = r .loop .inv .1; eight = r .loop .inv .2; whole = p .8; small = p .9 })
 
@@ -250,9 +250,9 @@ block-spec =
     part-part-end
     loop-holds
     add-loop
-    mul-early
-    shared-slice-read-early
-    add-early
+    mul-word
+    shared-slice-read-word
+    add-g
     early-requires
     add-refused-at
     refused-at-requires
