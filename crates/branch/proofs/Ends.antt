@@ -178,7 +178,7 @@ module _ (words frames constants : List ℕ) (v : ℕ) where
         rw (eq-eqb (kindOf m) (k + 6) e, ← dep-name u h, z)
         (byTest (knownEqual vs (depAt u) (siblingOf frame x)) (λ q. rw q) (λ q. rw q kept))
 
-    pub tells : tell any ≡ vs → ((t : ℕ) → tell (ref t) ≡ vs) → ((t : ℕ) → tell (maybe t) ≡ vs) → ((d : Dep) → tell (tagged d) ≡ vs)
+    tells : tell any ≡ vs → ((t : ℕ) → tell (ref t) ≡ vs) → ((t : ℕ) → tell (maybe t) ≡ vs) → ((d : Dep) → tell (tagged d) ≡ vs)
         → ((d : Dep) → tell (present d) ≡ vs) → ((d : Dep) → tell (same d) ≡ vs)
         → ((i t : ℕ) (d e : Dep) → tell (span i t d e) ≡ pick (eqb i k and knownEqual vs (name u) (side d e)) (rekinded vs v (k + 7)) vs)
         → (r : ℕ) → r ≡ nextKind vs v u (k + 6) x → retyped words frames constants v r ≡ tell (typed vs v)

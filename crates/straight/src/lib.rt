@@ -259,7 +259,7 @@ fn put(
     )
 }
 
-// Q12 of a store, and the field of the record, of size n, is the value put. It closes if each field fits its type.
+// Q12 of a store, and the field of the record, of size n, is the value. It closes if each field fits its type.
 fn store(
     types: &[u32],
     tags: &[u32],
