@@ -1,7 +1,7 @@
 -- One law for each answer to Q17 and Q19, and for the questions before Q20 in their order.
-use mathlib.Core.Path.{_≡_, sym, ap, _∙_}
+use mathlib.Core.Path.{_≡_, refl, ap, _∙_}
 use mathlib.Core.Bool.{true, false}
-use mathlib.Core.List.{List, _∷_}
+use mathlib.Core.List.{List, [], _∷_}
 use Prim.Native.Nat.{ℕ, suc, _+_, _*_, _%_, _≤_, _<_}
 use native.Mathlib.Numerals.{add-one}
 use native.Mathlib.Omega.{arith}
@@ -9,14 +9,13 @@ use lib.ListN.{length, getD, drop, drop-of-length-le}
 use lib.Seq.{drop-cons}
 use lib.Dec.{leb}
 use borrow.Author.Tests.{lt-ltb, le-ltb, le-leb, lt-leb, eq-eqb, ne-eqb, ltb-true}
-use Rattle.model.specs.declared.Verdict.{Verdict}
 use Rattle.model.specs.Question.{_and_, q17, q19, refusal, Outcome, ask, passed, refusing, verdictOf}
 use Rattle.model.specs.Table.{rows, headOf, tablesOf, typeLengthsAsk, typesAsk}
 use Rattle.model.specs.Allocation.{laid, rowsAsk, allocationsAsk}
 use Rattle.model.specs.Machine.{memoryLengthAsk}
 use Rattle.model.specs.MemoryCheck.{layoutAsk}
 use Rattle.model.proofs.Logic.{and-true}
-use Rattle.table.proofs.Questions.{then-on, then-stops}
+use Rattle.table.proofs.Questions.{inOrder, ComesTo}
 
 -- ---- the rows from row k on
 
@@ -99,22 +98,17 @@ module _ (types tags allocations : List ℕ) (top : ℕ) where
 
 -- ---- Q1 to Q4, Q17 and Q19, in order
 
-module _ (types tags allocations : List ℕ) (top : ℕ) (v₁ : Verdict) (e₁ : v₁ ≡ verdictOf (typeLengthsAsk (length types) (length tags))) where
-  pub layout-stop-lengths : (v₁ .number ≡ 0 → ⊥) → v₁ ≡ verdictOf (layoutAsk types tags allocations top)
-  unfolding layoutAsk
-  layout-stop-lengths h = then-stops _ _ v₁ e₁ h
+module _ (types tags allocations : List ℕ) (top : ℕ) where
+  -- past k questions, those left come to what all come to
+  abbrev pub LayoutPast : ℕ → Type 0
+  LayoutPast k =
+      ComesTo (verdictOf (layoutAsk types tags allocations top)) (drop k (
+      typeLengthsAsk (length types) (length tags)
+      ∷ typesAsk (tablesOf types tags)
+      ∷ memoryLengthAsk top
+      ∷ allocationsAsk (tablesOf types tags) top allocations
+      ∷ []))
 
-  module _ (z₁ : v₁ .number ≡ 0) (v₂ : Verdict) (e₂ : v₂ ≡ verdictOf (typesAsk (tablesOf types tags))) where
-    pub layout-stop-types : (v₂ .number ≡ 0 → ⊥) → v₂ ≡ verdictOf (layoutAsk types tags allocations top)
-    unfolding layoutAsk
-    layout-stop-types h = then-stops _ _ v₂ e₂ h ∙ sym (then-on _ _ v₁ e₁ z₁)
-
-    module _ (z₂ : v₂ .number ≡ 0) (v₃ : Verdict) (e₃ : v₃ ≡ verdictOf (memoryLengthAsk top)) where
-      pub layout-stop-memory : (v₃ .number ≡ 0 → ⊥) → v₃ ≡ verdictOf (layoutAsk types tags allocations top)
-      unfolding layoutAsk
-      layout-stop-memory h = then-stops _ _ v₃ e₃ h ∙ sym (then-on _ _ v₁ e₁ z₁ ∙ then-on _ _ v₂ e₂ z₂)
-
-      pub layout-to-allocations : v₃ .number ≡ 0
-          → verdictOf (allocationsAsk (tablesOf types tags) top allocations) ≡ verdictOf (layoutAsk types tags allocations top)
-      unfolding layoutAsk
-      layout-to-allocations z₃ = sym (then-on _ _ v₁ e₁ z₁ ∙ then-on _ _ v₂ e₂ z₂ ∙ then-on _ _ v₃ e₃ z₃)
+  pub layout-begins : LayoutPast 0
+  unfolding layoutAsk inOrder
+  layout-begins = record { asked = refl }

@@ -39,7 +39,7 @@ module _ (types tags allocations : List ℕ) (top : ℕ) (q : layoutAsk types ta
       (a, b, c, d)
 
   pub layout-types : length types ≤ 576
-  layout-types = type-lengths-passed (length types) (length tags) _ refl (ok-verdict _ (layout-parts .0)) .2
+  layout-types = type-lengths-passed (length types) (length tags) _ refl (ok-verdict _ (layout-parts .0)) .most
 
   pub layout-memory : top ≤ 16384
   layout-memory = memory-length top (layout-parts .2) .1

@@ -1,15 +1,14 @@
 -- A run: blocks up to a budget, and the opening questions.
 use mathlib.Core.Path.{_≡_, refl, sym, ap, _∙_}
 use mathlib.Core.Logic.{_⊎_, inl, inr}
-use mathlib.Core.List.{List}
+use mathlib.Core.List.{List, [], _∷_}
 use Prim.Native.Nat.{ℕ, zero, suc, _+_, _-_, _<_, _≤_}
 use native.Mathlib.Nat.{zero-add, add-zero, sub-eq-zero-of-le}
 use native.Mathlib.Numerals.{add-one}
 use native.Mathlib.Omega.{arith}
 use lib.ListN.{length, take, drop, length-take, length-drop}
-use borrow.Author.Tests.{lt-ltb, le-ltb}
 use Rattle.model.specs.declared.Verdict.{Verdict}
-use Rattle.model.specs.Question.{Question, numberOf, questionOf, q1, q16, refusal, Outcome, ok, refused, ask, then, refusing, verdictOf}
+use Rattle.model.specs.Question.{Question, numberOf, questionOf, q1, Outcome, ok, refused, verdictOf}
 use Rattle.model.specs.Table.{Routine, routineOf, startOf, headOf, rows, codeLengthsAsk, lengthsAsk}
 use Rattle.model.specs.Machine.{entering, State, Step, goes, halts, faults, step, Ran, halted, paused, faulted, onward, finish, steps, runBlocks}
 use Rattle.model.specs.Machine.{Run, answerOf, startAsk, memoryLengthAsk, runAsk, opened, run}
@@ -18,8 +17,7 @@ use Rattle.model.proofs.BlockSound.{Sized}
 use Rattle.model.proofs.TableLaws.{sized}
 use Rattle.model.proofs.MachineLaws.{goes-halts, goes-faults, OfCode, of-7, of-8, of-9, of-18, of-22, fault-asks, Placed, placed-here, placed-step}
 use Rattle.model.proofs.MachineLaws.{later, laterRan, blocks-later}
-use Rattle.model.proofs.RunCalls.{run-is}
-use Rattle.table.proofs.Questions.{left, no-refusal, then-on, then-stops}
+use Rattle.table.proofs.Questions.{left, no-refusal, inOrder, ComesTo}
 use Rattle.table.proofs.Laws.{start-more}
 use Rattle.step.specs.declared.Exit.{Exit}
 use Rattle.step.specs.declared.Exit.the-variants.{To, Following, Halted, No}
@@ -155,48 +153,32 @@ module _ (P : Routine) where
 -- ---- the opening questions
 
 opened-no : (o : Outcome (Unit {0})) (P : Routine) (m : List ℕ) (b : ℕ) (r : List ℕ) (k : ℕ) (v : Verdict) → v ≡ verdictOf o → (v .number ≡ 0 → ⊥)
-    → ran (v .number) (v .first) (v .second) 0 r m ≡ uncounted (opened o P m b r k)
+    → ran (v .number) (v .first) (v .second) 0 r m ≡ opened o P m b r k
 unfolding verdictOf opened
 opened-no (ok u) P m b r k v e z = absurd (z (ap (λ (x : Verdict). x .number) e))
 opened-no (refused f) P m b r k v e z = rw e
 
 module _ (blocks code m : List ℕ) (b : ℕ) where
+  -- past k questions, those left come to what all come to
+  abbrev pub RunPast : ℕ → Type 0
+  RunPast k =
+      ComesTo (verdictOf (runAsk blocks code m b)) (drop k (
+      codeLengthsAsk (length blocks) (length code)
+      ∷ lengthsAsk (routineOf blocks code)
+      ∷ startAsk (routineOf blocks code) b
+      ∷ memoryLengthAsk (length m)
+      ∷ []))
+
+  pub run-begins : RunPast 0
+  unfolding runAsk inOrder
+  run-begins = record { asked = refl }
+
   -- a run whose opening questions come to the verdict v
-  pub run-refused : (r : List ℕ) (k : ℕ) (v : Verdict) → v ≡ verdictOf (runAsk blocks code m b) → (v .number ≡ 0 → ⊥)
-      → ran (v .number) (v .first) (v .second) 0 r m ≡ uncounted (run blocks code m b r k)
-  unfolding run
-  run-refused r k v e z = opened-no (runAsk blocks code m b) (routineOf blocks code) m b r k v e z
+  module _ (r : List ℕ) (k : ℕ) (v : Verdict) (e : v ≡ verdictOf (runAsk blocks code m b)) where
+    pub run-refused : (v .number ≡ 0 → ⊥) → ran (v .number) (v .first) (v .second) 0 r m ≡ run blocks code m b r k
+    unfolding run
+    run-refused n = opened-no (runAsk blocks code m b) (routineOf blocks code) m b r k v e n
 
-  module _ (v : Verdict) (e : v ≡ verdictOf (codeLengthsAsk (length blocks) (length code))) where
-    pub no-of-lengths : (v .number ≡ 0 → ⊥) → v ≡ verdictOf (runAsk blocks code m b)
-    unfolding runAsk
-    no-of-lengths z = then-stops _ _ v e z
-
-    module _ (z : v .number ≡ 0) (v' : Verdict) (e' : v' ≡ verdictOf (lengthsAsk (routineOf blocks code))) where
-      pub no-of-blocks : (v' .number ≡ 0 → ⊥) → v' ≡ verdictOf (runAsk blocks code m b)
-      unfolding runAsk
-      no-of-blocks z' = then-stops _ _ v' e' z' ∙ sym (then-on _ _ v e z)
-
-      module _ (z' : v' .number ≡ 0) where
-        to-start : verdictOf (runAsk blocks code m b) ≡ verdictOf (then (startAsk (routineOf blocks code) b) (λ _. memoryLengthAsk (length m)))
-        unfolding runAsk
-        to-start = then-on _ _ v e z ∙ then-on _ _ v' e' z'
-
-        pub no-of-start : rows blocks ≤ b → refusing (refusal q16 0 0) ≡ verdictOf (runAsk blocks code m b)
-        unfolding startAsk verdictOf ask then routineOf
-        no-of-start h = sym (to-start ∙ rw (le-ltb b (rows blocks) h))
-
-        module _ (h : b < rows blocks) (v'' : Verdict) (e'' : v'' ≡ verdictOf (memoryLengthAsk (length m))) where
-          pub no-of-memory : (v'' .number ≡ 0 → ⊥) → v'' ≡ verdictOf (runAsk blocks code m b)
-          unfolding startAsk ask then routineOf
-          no-of-memory z'' = e'' ∙ sym (to-start ∙ rw (lt-ltb b (rows blocks) h))
-
-          pub run-opens : (r : List ℕ) (k : ℕ) → v'' .number ≡ 0 → ranOf blocks code m b r k ≡ run blocks code m b r k
-          unfolding routineOf
-          run-opens r k z'' =
-              sym (run-is blocks code m b r k (record {
-                codeLengths = no-refusal _ v e z;
-                lengths = no-refusal _ v' e' z';
-                exists = h;
-                bound = no-refusal _ v'' e'' z'';
-              }))
+    pub run-opens : v .number ≡ 0 → ranOf blocks code m b r k ≡ run blocks code m b r k
+    unfolding run opened
+    run-opens z = rw (no-refusal (runAsk blocks code m b) v e z)

@@ -1,21 +1,20 @@
 -- The table of owners of a passed layout, and one law for each answer to Q16, Q20, Q21 and the two checks.
 use mathlib.Core.Path.{_≡_, refl, sym, ap, _∙_}
 use mathlib.Core.Bool.{true}
-use mathlib.Core.List.{List}
+use mathlib.Core.List.{List, [], _∷_}
 use Prim.Native.Nat.{ℕ, zero, suc, _+_, _-_, _*_, _≤_, _<_}
 use native.Mathlib.Numerals.{add-one}
 use native.Mathlib.Omega.{arith}
 use lib.ListN.{length, getD, take, drop, length-drop, drop-of-length-le, replicate, length-replicate}
 use lib.Seq.{take-all}
-use borrow.Author.Tests.{lt-ltb, le-ltb, ltb-true}
-use Rattle.model.specs.declared.Verdict.{Verdict}
-use Rattle.model.specs.Question.{q16, q20, q21, refusal, Outcome, ok, refused, ask, then, firstNo, passed, refusing, verdictOf}
+use borrow.Author.Tests.{ltb-true}
+use Rattle.model.specs.Question.{q20, q21, refusal, Outcome, ok, then, firstNo, passed, refusing, verdictOf}
 use Rattle.model.specs.Table.{rows, headOf, wordsOf, Tables, tablesOf, routineOf, wellMade}
 use Rattle.model.specs.Table.{codeLengthsAsk, lengthsAsk, annotationsAsk}
 use Rattle.model.specs.Machine.{startAsk}
 use Rattle.model.specs.MemoryCheck.{recordsAsk, registerAsk, layoutAsk, memoryAsk, memoryCheck, entryAsk, entryCheck}
 use Rattle.model.proofs.Logic.{ask-ok, passed-then, ok-verdict}
-use Rattle.table.proofs.Questions.{no-refusal, then-on, then-stops}
+use Rattle.table.proofs.Questions.{inOrder, as-one, ComesTo}
 use Rattle.table.proofs.Laws.{annotation-well-made}
 use Rattle.layout.proofs.Layouts.{rows-from}
 use Rattle.layout.proofs.Passed.{layout-types, layout-memory, layout-even, layout-laid, layout-sizes, layout-row}
@@ -41,7 +40,9 @@ module _ (types tags allocations : List ℕ) (top : ℕ) (q : layoutAsk types ta
   layout-placed = (
     omega (arith, layout-types types tags allocations top q),
     layout-even types tags allocations top q,
-    λ k h. let (a, b, c) = layout-row types tags allocations top q k h _ _ refl refl in (a, layout-sized _ a, omega (arith, c, layout-memory types tags allocations top q)),
+    λ k h.
+        let (a, b, c) = layout-row types tags allocations top q k h _ _ refl refl in
+        (a, layout-sized _ a, omega (arith, c, layout-memory types tags allocations top q)),
   )
 
   -- the table filled from zeros
@@ -49,8 +50,8 @@ module _ (types tags allocations : List ℕ) (top : ℕ) (q : layoutAsk types ta
       → Owned (tablesOf types tags) allocations owners
   unfolding tablesOf
   layout-owned n owners h e =
-      owned (tablesOf types tags) top (layout-memory types tags allocations top q) layout-sized (replicate n 0) (length-replicate n 0 ∙ h) (zero-at n) allocations owners
-      (layout-laid types tags allocations top q) e
+      owned (tablesOf types tags) top (layout-memory types tags allocations top q) layout-sized
+      (replicate n 0) (length-replicate n 0 ∙ h) (zero-at n) allocations owners (layout-laid types tags allocations top q) e
 
 -- ---- the words of memory from p on, as a part of memory
 
@@ -101,48 +102,34 @@ module _ (types tags allocations memory : List ℕ) (k : ℕ) (whole : Outcome (
 
 -- ---- the memory check
 
-module _ (types tags allocations memory : List ℕ) (v : Verdict) (e : v ≡ verdictOf (layoutAsk types tags allocations (length memory))) where
-  pub memory-stops : (v .number ≡ 0 → ⊥) → v ≡ memoryCheck types tags allocations memory
-  unfolding memoryCheck memoryAsk
-  memory-stops h = then-stops _ _ v e h
+module _ (types tags allocations memory : List ℕ) where
+  -- past k questions, those left come to what all come to
+  abbrev pub MemoryPast : ℕ → Type 0
+  MemoryPast k =
+      ComesTo (memoryCheck types tags allocations memory) (drop k (
+      layoutAsk types tags allocations (length memory)
+      ∷ recordsAsk (tablesOf types tags) allocations memory allocations 0
+      ∷ []))
 
-  pub memory-laid : v .number ≡ 0 → layoutAsk types tags allocations (length memory) ≡ ok tt
-  memory-laid z = no-refusal _ v e z
-
-  pub memory-to-records : v .number ≡ 0
-      → verdictOf (recordsAsk (tablesOf types tags) allocations memory allocations 0) ≡ memoryCheck types tags allocations memory
-  unfolding memoryCheck memoryAsk
-  memory-to-records z = sym (then-on _ _ v e z)
+  pub memory-begins : MemoryPast 0
+  unfolding memoryCheck memoryAsk inOrder
+  memory-begins = record { asked = refl }
 
 -- ---- Q1 for blocks and code, Q5, Q6 and Q16, in order
 
-module _ (types tags blocks code : List ℕ) (b : ℕ) (v₁ : Verdict) (e₁ : v₁ ≡ verdictOf (codeLengthsAsk (length blocks) (length code))) where
-  pub routine-stop-lengths : (v₁ .number ≡ 0 → ⊥) → v₁ ≡ verdictOf (routineAsk types tags blocks code b)
-  unfolding routineAsk
-  routine-stop-lengths h = then-stops _ _ v₁ e₁ h
+module _ (types tags blocks code : List ℕ) (b : ℕ) where
+  abbrev pub RoutinePast : ℕ → Type 0
+  RoutinePast k =
+      ComesTo (verdictOf (routineAsk types tags blocks code b)) (drop k (
+      codeLengthsAsk (length blocks) (length code)
+      ∷ lengthsAsk (routineOf blocks code)
+      ∷ annotationsAsk (tablesOf types tags) (routineOf blocks code)
+      ∷ startAsk (routineOf blocks code) b
+      ∷ []))
 
-  module _ (z₁ : v₁ .number ≡ 0) (v₂ : Verdict) (e₂ : v₂ ≡ verdictOf (lengthsAsk (routineOf blocks code))) where
-    pub routine-stop-blocks : (v₂ .number ≡ 0 → ⊥) → v₂ ≡ verdictOf (routineAsk types tags blocks code b)
-    unfolding routineAsk
-    routine-stop-blocks h = then-stops _ _ v₂ e₂ h ∙ sym (then-on _ _ v₁ e₁ z₁)
-
-    module _ (z₂ : v₂ .number ≡ 0) (v₃ : Verdict) (e₃ : v₃ ≡ verdictOf (annotationsAsk (tablesOf types tags) (routineOf blocks code))) where
-      pub routine-stop-annotations : (v₃ .number ≡ 0 → ⊥) → v₃ ≡ verdictOf (routineAsk types tags blocks code b)
-      unfolding routineAsk
-      routine-stop-annotations h = then-stops _ _ v₃ e₃ h ∙ sym (then-on _ _ v₁ e₁ z₁ ∙ then-on _ _ v₂ e₂ z₂)
-
-      module _ (z₃ : v₃ .number ≡ 0) where
-        to-start : verdictOf (startAsk (routineOf blocks code) b) ≡ verdictOf (routineAsk types tags blocks code b)
-        unfolding routineAsk
-        to-start = sym (then-on _ _ v₁ e₁ z₁ ∙ then-on _ _ v₂ e₂ z₂ ∙ then-on _ _ v₃ e₃ z₃)
-
-        pub routine-no-block : rows blocks ≤ b → refusing (refusal q16 0 0) ≡ verdictOf (routineAsk types tags blocks code b)
-        unfolding startAsk routineOf ask verdictOf
-        routine-no-block h = rw (le-ltb b (rows blocks) h) at to-start
-
-        pub routine-passes : b < rows blocks → passed ≡ verdictOf (routineAsk types tags blocks code b)
-        unfolding startAsk routineOf ask verdictOf
-        routine-passes h = rw (lt-ltb b (rows blocks) h) at to-start
+  pub routine-begins : RoutinePast 0
+  unfolding routineAsk inOrder
+  routine-begins = record { asked = refl }
 
 -- what the passed questions of a routine give
 module _ (types tags blocks code : List ℕ) (b : ℕ) (q : routineAsk types tags blocks code b ≡ ok tt) where
@@ -173,39 +160,18 @@ module _ (𝒯 : Tables) (allocations annotation registers : List ℕ) (k : ℕ)
 
 -- ---- the entry check
 
--- four questions asked as one, and what follows
-as-one : (a b c d k : Outcome (Unit {0}))
-    → then a (λ _. then b (λ _. then c (λ _. then d (λ _. k)))) ≡ then (then a (λ _. then b (λ _. then c (λ _. d)))) (λ _. k)
-unfolding then
-as-one (ok _) (ok _) (ok _) d k = refl
-as-one (ok _) (ok _) (refused r) d k = refl
-as-one (ok _) (refused r) c d k = refl
-as-one (refused r) b c d k = refl
-
 module _ (types tags allocations memory blocks code : List ℕ) (b : ℕ) (registers : List ℕ) where
-  unfoldable registersAsk : Outcome (Unit {0})
-  registersAsk = firstNo 8 0 (registerAsk (tablesOf types tags) allocations (wordsOf blocks b) registers)
+  abbrev pub EntryPast : ℕ → Type 0
+  EntryPast k =
+      ComesTo (entryCheck types tags allocations memory blocks code b registers) (drop k (
+      layoutAsk types tags allocations (length memory)
+      ∷ routineAsk types tags blocks code b
+      ∷ firstNo 8 0 (registerAsk (tablesOf types tags) allocations (wordsOf blocks b) registers)
+      ∷ []))
 
-  -- Q21 follows the questions of the routine
-  entry-is : entryAsk types tags allocations memory blocks code b registers
-      ≡ then (layoutAsk types tags allocations (length memory)) (λ _. then (routineAsk types tags blocks code b) (λ _. registersAsk))
-  unfolding entryAsk routineAsk registersAsk routineOf
-  entry-is = ap (λ (o : Outcome (Unit {0})). then (layoutAsk types tags allocations (length memory)) (λ _. o))
-      (as-one (codeLengthsAsk (length blocks) (length code)) (lengthsAsk (routineOf blocks code)) (annotationsAsk (tablesOf types tags) (routineOf blocks code))
-      (startAsk (routineOf blocks code) b) registersAsk)
-
-  module _ (v₁ : Verdict) (e₁ : v₁ ≡ verdictOf (layoutAsk types tags allocations (length memory))) where
-    pub entry-stop-layout : (v₁ .number ≡ 0 → ⊥) → v₁ ≡ entryCheck types tags allocations memory blocks code b registers
-    unfolding entryCheck
-    entry-stop-layout h = then-stops _ _ v₁ e₁ h ∙ ap verdictOf (sym entry-is)
-
-    module _ (z₁ : v₁ .number ≡ 0) (v₂ : Verdict) (e₂ : v₂ ≡ verdictOf (routineAsk types tags blocks code b)) where
-      pub entry-stop-routine : (v₂ .number ≡ 0 → ⊥) → v₂ ≡ entryCheck types tags allocations memory blocks code b registers
-      unfolding entryCheck
-      entry-stop-routine h = then-stops _ _ v₂ e₂ h ∙ sym (then-on _ _ v₁ e₁ z₁) ∙ ap verdictOf (sym entry-is)
-
-      pub entry-to-registers : v₂ .number ≡ 0
-          → verdictOf (firstNo 8 0 (registerAsk (tablesOf types tags) allocations (wordsOf blocks b) registers))
-          ≡ entryCheck types tags allocations memory blocks code b registers
-      unfolding entryCheck registersAsk
-      entry-to-registers z₂ = sym (then-on _ _ v₁ e₁ z₁ ∙ then-on _ _ v₂ e₂ z₂) ∙ ap verdictOf (sym entry-is)
+  -- the questions of the routine are asked as one
+  pub entry-begins : EntryPast 0
+  unfolding entryCheck entryAsk routineAsk routineOf inOrder
+  entry-begins = let layout = layoutAsk types tags allocations (length memory) in record {
+    asked = ap (λ (o : Outcome (Unit {0})). verdictOf (then layout (λ _. o))) (as-one (_ ∷ _ ∷ _ ∷ _ ∷ []) _ []);
+  }

@@ -2,16 +2,15 @@
 use mathlib.Core.Path.{_≡_, refl, sym, _∙_}
 use mathlib.Core.Logic.{⊎-elim}
 use mathlib.Core.Bool.{Bool, true, false}
-use mathlib.Core.List.{List}
+use mathlib.Core.List.{List, [], _∷_}
 use Prim.Native.Nat.{ℕ, _+_, _*_, _%_, _-_, _<_, _≤_}
 use native.Mathlib.Nat.{eq-or-lt-of-le, sub-self, sub-zero}
 use native.Mathlib.Numerals.{add-one}
 use native.Mathlib.Omega.{arith}
 use lib.Dec.{ltb, leb, eqb}
-use lib.ListN.{length, getD, set, length-set}
+use lib.ListN.{length, drop, getD, set, length-set}
 use lib.Seq.{getD-set-same, getD-set-other}
 use borrow.Author.Tests.{lt-ltb, le-ltb, le-leb, lt-leb, eq-eqb, ne-eqb}
-use Rattle.model.specs.declared.Verdict.{Verdict}
 use Rattle.model.specs.Question.{_and_, _or_, pick, ask, every, firstNo, q1, q2, q3, q4, q5, q6, refusal, Outcome, ok, refused, passed, refusing, verdictOf}
 use Rattle.model.specs.Word.{kindOf, recordOf, firstOf, secondOf}
 use Rattle.model.specs.Table.{wholeRows, typeLengthsAsk, codeLengthsAsk}
@@ -20,7 +19,7 @@ use Rattle.model.specs.Table.{startOf, routineOf, blocksAsk, lengthsAsk, annota
 use Rattle.table.specs.Row.{placeWell}
 use Rattle.model.proofs.Logic.{pick-true}
 use Rattle.table.proofs.Laws.{recordPart, dependencyPart, lengthWell, start-none, uses-span}
-use Rattle.table.proofs.Questions.{left, then-on, then-stops}
+use Rattle.table.proofs.Questions.{left, inOrder, ComesTo}
 
 -- ---- Q1
 
@@ -173,23 +172,19 @@ module _ (types tags : List ℕ) (k : ℕ) where
 
 -- ---- Q2 to Q4, in order
 
-module _ (types tags : List ℕ) (v : Verdict) (e : v ≡ verdictOf (firstNo (rows types) 0 (countAsk (tablesOf types tags)))) where
-  pub types-stop-counts : (v .number ≡ 0 → ⊥) → v ≡ verdictOf (typesAsk (tablesOf types tags))
-  unfolding typesAsk tablesOf
-  types-stop-counts h = then-stops (firstNo (rows types) 0 (countAsk (tablesOf types tags))) _ v e h
+module _ (types tags : List ℕ) where
+  -- past k questions, those left come to what all come to
+  abbrev pub TypesPast : ℕ → Type 0
+  TypesPast k =
+      ComesTo (verdictOf (typesAsk (tablesOf types tags))) (drop k (
+      firstNo (rows types) 0 (countAsk (tablesOf types tags))
+      ∷ firstNo (rows types) 0 (fieldsAsk (tablesOf types tags))
+      ∷ firstNo (length tags) 0 (tagAsk (tablesOf types tags))
+      ∷ []))
 
-  module _ (z : v .number ≡ 0) (u : Verdict) (d : u ≡ verdictOf (firstNo (rows types) 0 (fieldsAsk (tablesOf types tags)))) where
-    pub types-stop-words : (u .number ≡ 0 → ⊥) → u ≡ verdictOf (typesAsk (tablesOf types tags))
-    unfolding typesAsk tablesOf
-    types-stop-words h =
-        then-stops (firstNo (rows types) 0 (fieldsAsk (tablesOf types tags))) _ u d h
-        ∙ sym (then-on (firstNo (rows types) 0 (countAsk (tablesOf types tags))) _ v e z)
-
-    pub types-to-tags : u .number ≡ 0 → verdictOf (firstNo (length tags) 0 (tagAsk (tablesOf types tags))) ≡ verdictOf (typesAsk (tablesOf types tags))
-    unfolding typesAsk tablesOf
-    types-to-tags y =
-        sym (then-on (firstNo (rows types) 0 (fieldsAsk (tablesOf types tags))) _ u d y)
-        ∙ sym (then-on (firstNo (rows types) 0 (countAsk (tablesOf types tags))) _ v e z)
+  pub types-begin : TypesPast 0
+  unfolding typesAsk tablesOf inOrder
+  types-begin = record { asked = refl }
 
 -- ---- Q5
 

@@ -10,11 +10,12 @@ use lib.Seq.{getD-take, getD-drop}
 use lib.Dec.{ltb, leb, eqb}
 use borrow.Author.Tests.{lt-ltb, le-ltb, le-leb, ne-eqb, leb-true, ltb-true, eqb-true}
 use Rattle.model.specs.declared.Verdict.{Verdict}
-use Rattle.model.specs.Question.{_and_, _or_, pick, firstNo, ok, verdictOf}
+use Rattle.model.specs.Question.{_and_, _or_, pick, ask, firstNo, ok, q16, refusal, passed, refusing, verdictOf}
 use Rattle.model.specs.Word.{kindOf, recordOf, firstOf, secondOf}
 use Rattle.model.specs.Table.{rowOf, rows, headOf, wordsOf, startOf, tablesOf, routineOf}
 use Rattle.model.specs.Table.{wholeRows, typeLengthsAsk, codeLengthsAsk, countAsk, fieldWell, fieldsAsk, tagAsk, typesAsk}
 use Rattle.model.specs.Table.{usesRecord, usesFirst, usesSecond, dependency, wellMade, blocksAsk, lengthsAsk, annotationWell, annotationAsk, annotationsAsk}
+use Rattle.model.specs.Machine.{startAsk}
 use Rattle.model.proofs.Logic.{either, byEqual, and-true, or-true, ask-ok, passed-then, every-true, firstNo-ok}
 use Rattle.table.proofs.Questions.{no-refusal}
 
@@ -183,22 +184,33 @@ whole-rows-facts most n h =
     let (b, c) = and-true (leb 9 n) _ q in
     (eqb-true (n % 9) 0 a, leb-true 9 n b, leb-true n (9 * most) c)
 
-pub type-lengths-passed : (types tags : ℕ) (v : Verdict) → v ≡ verdictOf (typeLengthsAsk types tags) → v .number ≡ 0
-    → (types % 9 ≡ 0) × (9 ≤ types) × (types ≤ 576) × (tags ≤ 64)
+pub record TypeLengths (types tags : ℕ) : Type 0 where
+  pub whole : types % 9 ≡ 0
+  pub least : 9 ≤ types
+  pub most : types ≤ 576
+  pub tagged : tags ≤ 64
+
+pub type-lengths-passed : (types tags : ℕ) (v : Verdict) → v ≡ verdictOf (typeLengthsAsk types tags) → v .number ≡ 0 → TypeLengths types tags
 unfolding typeLengthsAsk
 type-lengths-passed types tags v e z =
     let (a, q) = ask-ok (wholeRows 64 types) _ _ (no-refusal (typeLengthsAsk types tags) v e z) in
-    let f = whole-rows-facts 64 types a in
-    (f .0, f .1, f .2, leb-true tags 64 (ask-ok (leb tags 64) _ _ q .0))
+    let (whole, least, most) = whole-rows-facts 64 types a in
+    record { whole = whole; least = least; most = most; tagged = leb-true tags 64 (ask-ok (leb tags 64) _ _ q .0) }
 
-pub code-lengths-passed : (blocks code : ℕ) (v : Verdict) → v ≡ verdictOf (codeLengthsAsk blocks code) → v .number ≡ 0
-    → (blocks % 9 ≡ 0) × (9 ≤ blocks) × (blocks ≤ 2304) × (1 ≤ code) × (code ≤ 8192)
+pub record CodeLengths (blocks code : ℕ) : Type 0 where
+  pub whole : blocks % 9 ≡ 0
+  pub least : 9 ≤ blocks
+  pub most : blocks ≤ 2304
+  pub some : 1 ≤ code
+  pub long : code ≤ 8192
+
+pub code-lengths-passed : (blocks code : ℕ) (v : Verdict) → v ≡ verdictOf (codeLengthsAsk blocks code) → v .number ≡ 0 → CodeLengths blocks code
 unfolding codeLengthsAsk
 code-lengths-passed blocks code v e z =
     let (a, q) = ask-ok (wholeRows 256 blocks) _ _ (no-refusal (codeLengthsAsk blocks code) v e z) in
     let (b, c) = and-true (leb 1 code) _ (ask-ok (leb 1 code and leb code 8192) _ _ q .0) in
-    let f = whole-rows-facts 256 blocks a in
-    (f .0, f .1, f .2, leb-true 1 code b, leb-true code 8192 c)
+    let (whole, least, most) = whole-rows-facts 256 blocks a in
+    record { whole = whole; least = least; most = most; some = leb-true 1 code b; long = leb-true code 8192 c }
 
 -- ---- Q2 to Q4 passed
 
@@ -302,3 +314,14 @@ module _ (types tags blocks code : List ℕ) (v : Verdict) (e : v ≡ verdictOf 
   unfolding annotationAsk annotationWell tablesOf routineOf
   annotation-well-made b r h l =
       every-true 8 0 _ (ask-ok _ _ _ (firstNo-ok _ 0 _ annotations-ok b (omega arith) (omega arith)) .0) r (omega arith) (omega arith)
+
+-- ---- Q16
+
+module _ (blocks code : List ℕ) (b : ℕ) where
+  pub start-no : rows blocks ≤ b → refusing (refusal q16 0 0) ≡ verdictOf (startAsk (routineOf blocks code) b)
+  unfolding startAsk routineOf ask verdictOf
+  start-no h = rw (le-ltb b (rows blocks) h)
+
+  pub start-yes : b < rows blocks → passed ≡ verdictOf (startAsk (routineOf blocks code) b)
+  unfolding startAsk routineOf ask verdictOf
+  start-yes h = rw (lt-ltb b (rows blocks) h)

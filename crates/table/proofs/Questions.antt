@@ -1,6 +1,7 @@
 -- Laws of questions as a loop asks them: what the whole comes to one step on, at a no and at the end.
 use mathlib.Core.Path.{_≡_, refl, ap, sym, _∙_}
 use mathlib.Core.Bool.{Bool, true, false}
+use mathlib.Core.List.{List, [], _∷_, _++_}
 use Prim.Native.Nat.{ℕ, suc, _+_, _-_, _<_, _≤_}
 use native.Mathlib.Nat.{sub-zero, sub-eq-zero-of-le}
 use native.Mathlib.Numerals.{add-one}
@@ -44,12 +45,47 @@ stops (ok a) k h = absurd (h refl)
 stops (refused r) k h = refl
 
 module _ {B : Type 0} (o : Outcome (Unit {0})) (k : Unit {0} → Outcome B) (v : Verdict) (e : v ≡ verdictOf o) where
-  pub then-on : v .number ≡ 0 → verdictOf (then o k) ≡ verdictOf (k tt)
+  then-on : v .number ≡ 0 → verdictOf (then o k) ≡ verdictOf (k tt)
   unfolding then
   then-on z = rw (no-refusal o v e z)
 
   pub then-stops : (v .number ≡ 0 → ⊥) → v ≡ verdictOf (then o k)
   then-stops h = e ∙ stops o k (λ z. h (ap (λ (u : Verdict). u .number) e ∙ z))
+
+-- ---- a list of questions
+
+-- each is asked where none before it had a no
+unfoldable pub inOrder : List (Outcome (Unit {0})) → Outcome (Unit {0})
+inOrder [] = ok tt
+inOrder (q ∷ []) = q
+inOrder (q ∷ r ∷ rest) = then q λ _. inOrder (r ∷ rest)
+
+-- some of them asked as one
+pub as-one : (qs : List (Outcome (Unit {0}))) (r : Outcome (Unit {0})) (rest : List (Outcome (Unit {0})))
+    → inOrder (qs ++ r ∷ rest) ≡ inOrder (inOrder qs ∷ r ∷ rest)
+unfolding inOrder then
+as-one [] r rest = refl
+as-one (q ∷ []) r rest = refl
+as-one (ok u ∷ q ∷ qs) r rest = as-one (q ∷ qs) r rest
+as-one (refused x ∷ q ∷ qs) r rest = refl
+
+-- whole is what the questions that are left to ask come to
+pub record ComesTo (whole : Verdict) (rest : List (Outcome (Unit {0}))) : Type 0 where
+  pub asked : whole ≡ verdictOf (inOrder rest)
+
+pub after-yes : {whole v : Verdict} {q r : Outcome (Unit {0})} {rest : List (Outcome (Unit {0}))}
+    → ComesTo whole (q ∷ r ∷ rest) → v ≡ verdictOf q → v .number ≡ 0 → ComesTo whole (r ∷ rest)
+unfolding inOrder
+after-yes c e z = record { asked = c .asked ∙ then-on _ _ _ e z }
+
+pub at-no : {whole v : Verdict} {q r : Outcome (Unit {0})} {rest : List (Outcome (Unit {0}))}
+    → ComesTo whole (q ∷ r ∷ rest) → v ≡ verdictOf q → (v .number ≡ 0 → ⊥) → v ≡ whole
+unfolding inOrder
+at-no c e n = then-stops _ _ _ e n ∙ sym (c .asked)
+
+pub at-last : {whole v : Verdict} {q : Outcome (Unit {0})} → ComesTo whole (q ∷ []) → v ≡ verdictOf q → v ≡ whole
+unfolding inOrder
+at-last c e = e ∙ sym (c .asked)
 
 -- ---- the same question of each row
 

@@ -19,7 +19,7 @@ use Rattle.model.specs.Check.{valueIn, readPlain, readEdges, noAt, lastAt, read
 use Rattle.model.proofs.Logic.{byTest, byLess, pick-both, number-of, ok-same, not-ok}
 use Rattle.model.proofs.Lists.{length-upFrom}
 use Rattle.model.proofs.Inversion.{record-ok}
-use Rattle.table.proofs.Questions.{left, no-refusal, then-on, then-stops, first-on}
+use Rattle.table.proofs.Questions.{left, no-refusal, then-stops, first-on, inOrder, ComesTo}
 use Rattle.fits.specs.Numbers.{framesOf}
 use Rattle.straight.specs.State.{viewsOf, reading, numbered, earlyAsk}
 use Rattle.straight.proofs.Steps.{size-past}
@@ -129,7 +129,8 @@ eight-plain 𝒯 place g (store a b c) st st′ e q =
     let R = record-ok 𝒯 place st b c st′ _ q in
     rw (← ok-same (R .rest)) (length-set (look 𝒯 st g (valueIn st b) (R .type) .fields) c (valueIn st a) ∙ eight-look 𝒯 st g (valueIn st b) (R .type) e)
 
-pub eight-early : (𝒯 : Tables) (g : ℕ) (i : Instruction) (st st′ : Reading) (z : ℕ) → ((place : Question → Refusal) → numbered place z st′ ≡ earlyAsk 𝒯 place g i st)
+pub eight-early : (𝒯 : Tables) (g : ℕ) (i : Instruction) (st st′ : Reading) (z : ℕ)
+    → ((place : Question → Refusal) → numbered place z st′ ≡ earlyAsk 𝒯 place g i st)
     → z ≡ 0 → length (st .fields) ≡ 8 → length (st′ .fields) ≡ 8
 unfolding earlyAsk
 eight-early 𝒯 g i st st′ z es ez e = go i (sym (es anywhere) ∙ numbered-ok anywhere z st′ ez)
@@ -205,39 +206,24 @@ module _ (types tags blocks code : List ℕ) where
 -- ---- the check
 
 -- every size is at most 8: past the table it is 0
-pub sizes-small : (types : List ℕ) → length types % 9 ≡ 0 → ((t : ℕ) → t < rows types → (1 ≤ headOf types t) × (headOf types t ≤ 8)) → (t : ℕ) → headOf types t ≤ 8
+pub sizes-small : (types : List ℕ) → length types % 9 ≡ 0 → ((t : ℕ) → t < rows types → (1 ≤ headOf types t) × (headOf types t ≤ 8))
+    → (t : ℕ) → headOf types t ≤ 8
 sizes-small types e h t =
     byLess t (rows types) (λ l. h t l .1) (λ l. let z : 0 ≡ headOf types t = size-past types t (omega arith) in omega arith)
 
-module _ (types tags blocks code : List ℕ) (v₁ : Verdict) (e₁ : v₁ ≡ verdictOf (typeLengthsAsk (length types) (length tags))) where
-  pub check-1 : (v₁ .number ≡ 0 → ⊥) → v₁ ≡ check types tags blocks code
-  unfolding check checkAsk
-  check-1 n = then-stops _ _ v₁ e₁ n
+module _ (types tags blocks code : List ℕ) where
+  -- past k questions, those left come to what all come to
+  abbrev pub CheckPast : ℕ → Type 0
+  CheckPast k =
+      ComesTo (check types tags blocks code) (drop k (
+      typeLengthsAsk (length types) (length tags)
+      ∷ codeLengthsAsk (length blocks) (length code)
+      ∷ typesAsk (tablesOf types tags)
+      ∷ lengthsAsk (routineOf blocks code)
+      ∷ annotationsAsk (tablesOf types tags) (routineOf blocks code)
+      ∷ judge (tablesOf types tags) (routineOf blocks code)
+      ∷ []))
 
-  module _ (z₁ : v₁ .number ≡ 0) (v₂ : Verdict) (e₂ : v₂ ≡ verdictOf (codeLengthsAsk (length blocks) (length code))) where
-    pub check-2 : (v₂ .number ≡ 0 → ⊥) → v₂ ≡ check types tags blocks code
-    unfolding check checkAsk
-    check-2 n = then-stops _ _ v₂ e₂ n ∙ sym (then-on _ _ v₁ e₁ z₁)
-
-    module _ (z₂ : v₂ .number ≡ 0) (v₃ : Verdict) (e₃ : v₃ ≡ verdictOf (typesAsk (tablesOf types tags))) where
-      pub check-3 : (v₃ .number ≡ 0 → ⊥) → v₃ ≡ check types tags blocks code
-      unfolding check checkAsk
-      check-3 n = then-stops _ _ v₃ e₃ n ∙ sym (then-on _ _ v₂ e₂ z₂) ∙ sym (then-on _ _ v₁ e₁ z₁)
-
-      module _ (z₃ : v₃ .number ≡ 0) (v₄ : Verdict) (e₄ : v₄ ≡ verdictOf (lengthsAsk (routineOf blocks code))) where
-        pub check-4 : (v₄ .number ≡ 0 → ⊥) → v₄ ≡ check types tags blocks code
-        unfolding check checkAsk
-        check-4 n = then-stops _ _ v₄ e₄ n ∙ sym (then-on _ _ v₃ e₃ z₃) ∙ sym (then-on _ _ v₂ e₂ z₂) ∙ sym (then-on _ _ v₁ e₁ z₁)
-
-        module _ (z₄ : v₄ .number ≡ 0) (v₅ : Verdict) (e₅ : v₅ ≡ verdictOf (annotationsAsk (tablesOf types tags) (routineOf blocks code))) where
-          pub check-5 : (v₅ .number ≡ 0 → ⊥) → v₅ ≡ check types tags blocks code
-          unfolding check checkAsk
-          check-5 n =
-              then-stops _ _ v₅ e₅ n ∙ sym (then-on _ _ v₄ e₄ z₄) ∙ sym (then-on _ _ v₃ e₃ z₃) ∙ sym (then-on _ _ v₂ e₂ z₂)
-              ∙ sym (then-on _ _ v₁ e₁ z₁)
-
-          pub check-6 : v₅ .number ≡ 0 → verdictOf (judge (tablesOf types tags) (routineOf blocks code)) ≡ check types tags blocks code
-          unfolding check checkAsk
-          check-6 z₅ =
-              sym (then-on _ _ v₅ e₅ z₅) ∙ sym (then-on _ _ v₄ e₄ z₄) ∙ sym (then-on _ _ v₃ e₃ z₃) ∙ sym (then-on _ _ v₂ e₂ z₂)
-              ∙ sym (then-on _ _ v₁ e₁ z₁)
+  pub check-begins : CheckPast 0
+  unfolding check checkAsk inOrder
+  check-begins = record { asked = refl }

@@ -1,65 +1,72 @@
 -- `memory::entry_check` meets its contract: the layout, the routine's tables, then every register.
-use mathlib.Core.Path.{refl, _∙_}
+use mathlib.Core.Path.{_≡_, refl}
+use Prim.Native.Nat.{ℕ}
 use native.Mathlib.Omega.{arith}
 use denote.Ref.{now}
-use Rattle.table.proofs.Questions.{no-refusal}
+use lib.ListN.{length}
+use Rattle.model.specs.Question.{ok}
+use Rattle.model.specs.MemoryCheck.{layoutAsk}
+use Rattle.table.proofs.Questions.{no-refusal, after-yes, at-no, at-last}
 use Rattle.layout.proofs.Passed.{layout-types}
-use Rattle.memory.proofs.Checks.{layout-sized, layout-placed, layout-owned, memory-laid}
-use Rattle.memory.proofs.Checks.{routine-block, routine-well, entry-stop-layout, entry-stop-routine, entry-to-registers}
+use Rattle.memory.proofs.Checks.{layout-sized, layout-placed, layout-owned, routine-block, routine-well, EntryPast, entry-begins}
 use borrow.Author.Needs.{needs}
 use Rattle.memory.proofs.entry_check.Statement.{statement}
 use Rattle.memory.proofs.entry_check.Tie as tie
+
+-- ---- the places past each question, and what is left to ask there
+
+abbrev start : tie.After-layout → tie.Start
+start c = c .before .before .before .before .before .before .before
+
+abbrev start-1 : tie.Else1 → tie.Start
+start-1 c = start (c .before .before)
+
+abbrev past-1 : tie.Else2 → tie.Else1
+past-1 c = c .before .before .before
+
+abbrev Past : tie.Start → ℕ → Type 0
+Past s =
+    EntryPast (now (s .args .types)) (now (s .args .tags)) (now (s .args .allocations)) (now (s .args .memory))
+    (now (s .args .blocks)) (now (s .args .code)) (s .args .block) (s .args .registers)
+
+left-1 : (c : tie.Else1) → Past (start-1 c) 1
+left-1 c = after-yes (entry-begins _ _ _ _ _ _ _ _) (c .before .before .layout .ensures) (c .if1 .left)
+
+left-2 : (c : tie.Else2) → Past (start-1 (past-1 c)) 2
+left-2 c = after-yes (left-1 (past-1 c)) (c .before .before .routine .ensures _) (c .if2 .left)
+
+laid : (c : tie.Else1)
+    → let s = start-1 c .args in layoutAsk (now (s .types)) (now (s .tags)) (now (s .allocations)) (length (now (s .memory))) ≡ ok tt
+laid c = no-refusal _ _ (c .before .before .layout .ensures) (c .if1 .left)
+
+-- ---- the needs
 
 layout-requires : tie.Need-layout-requires
 layout-requires c κs = search needs
 
 returns : tie.Need-returns
-returns c =
-    let a = c .before .before in
-    entry-stop-layout _ _ _ _ _ _ _ _ _ (a .layout .ensures) (c .if1 .taken)
+returns c = at-no (entry-begins _ _ _ _ _ _ _ _) (c .before .before .layout .ensures) (c .if1 .taken)
 
 routine-requires : tie.Need-routine-requires
-routine-requires c κs =
-    let a = c .before .before in
-    let s = a .before .before .before .before .before .before .before in
-    layout-types _ _ _ _ (memory-laid _ _ _ (now (s .args .memory)) _ (a .layout .ensures) (c .if1 .left))
+routine-requires c κs = layout-types _ _ _ _ (laid c)
 
 returns-2 : tie.Need-returns-2
-returns-2 c =
-    let b = c .before .before in
-    let k = b .before in
-    let a = k .before .before in
-    entry-stop-routine _ _ _ _ _ _ _ _ _ (a .layout .ensures) (k .if1 .left) _ (b .routine .ensures _) (c .if2 .taken)
+returns-2 c = at-no (left-1 (c .before .before .before)) (c .before .before .routine .ensures _) (c .if2 .taken)
 
 fill-requires : tie.Need-fill-requires
-fill-requires c κs =
-    let k = c .before .before .before .before in
-    let a = k .before .before in
-    let s = a .before .before .before .before .before .before .before in
-    layout-placed _ _ _ _ (memory-laid _ _ _ (now (s .args .memory)) _ (a .layout .ensures) (k .if1 .left))
+fill-requires c κs = layout-placed _ _ _ _ (laid (past-1 (c .before)))
 
 registers-met-requires : tie.Need-registers-met-requires
 registers-met-requires c κs =
     let m = c .before .before .before in
-    let b = m .before .before in
-    let k = b .before in
-    let a = k .before .before in
-    let s = a .before .before .before .before .before .before .before in
-    let q = memory-laid _ _ _ (now (s .args .memory)) _ (a .layout .ensures) (k .if1 .left) in
-    let r = no-refusal _ _ (b .routine .ensures (now (s .args .tags))) (m .if2 .left) in
-    (layout-sized _ _ _ _ q, omega (arith, routine-block _ _ _ _ _ r), routine-well _ _ _ _ _ r)
+    let r = no-refusal _ _ (m .before .before .routine .ensures (now (start-1 (past-1 m) .args .tags))) (m .if2 .left) in
+    (layout-sized _ _ _ _ (laid (past-1 m)), omega (arith, routine-block _ _ _ _ _ r), routine-well _ _ _ _ _ r)
 
 returns-3 : tie.Need-returns-3
 returns-3 c =
     let f = c .before .before in
     let m = f .before .before in
-    let b = m .before .before in
-    let k = b .before in
-    let a = k .before .before in
-    let s = a .before .before .before .before .before .before .before in
-    let q = memory-laid _ _ _ (now (s .args .memory)) _ (a .layout .ensures) (k .if1 .left) in
-    c .registers-met .ensures _ (layout-owned _ _ _ _ q 16384 _ refl (f .fill .ensures))
-    ∙ entry-to-registers _ _ _ _ _ _ _ _ _ (a .layout .ensures) (k .if1 .left) _ (b .routine .ensures _) (m .if2 .left)
+    at-last (left-2 m) (c .registers-met .ensures _ (layout-owned _ _ _ _ (laid (past-1 m)) 16384 _ refl (f .fill .ensures)))
 
 pub entry-check-spec : {M : Type 1} → statement M
 entry-check-spec =

@@ -1,81 +1,77 @@
--- `memory::routine` meets its contract: the first verdict with a no, or the last.
+-- `memory::routine` meets its contract: past each question, those left come to what all come to. Any tags do.
 use mathlib.Core.Path.{refl, _∙_}
+use mathlib.Core.List.{List}
+use Prim.Native.Nat.{ℕ}
 use native.Mathlib.Omega.{arith}
-use Rattle.table.proofs.Laws.{code-lengths-passed}
-use Rattle.memory.proofs.Checks.{routine-stop-lengths, routine-stop-blocks, routine-stop-annotations, routine-no-block, routine-passes}
+use denote.Ref.{now}
+use lib.ListN.{length}
+use Rattle.table.proofs.Laws.{CodeLengths, code-lengths-passed, start-no, start-yes}
+use Rattle.table.proofs.Questions.{after-yes, at-no, at-last}
+use Rattle.memory.proofs.Checks.{RoutinePast, routine-begins}
 use borrow.Author.Needs.{needs}
 use Rattle.memory.proofs.routine.Statement.{statement}
 use Rattle.memory.proofs.routine.Tie as tie
+
+-- ---- the places past each question, and what is left to ask there
+
+abbrev start : tie.Else1 → tie.Start
+start c = c .before .before .before .before .before .before
+
+abbrev past-1 : tie.Else2 → tie.Else1
+past-1 c = c .before .before .before .before
+
+abbrev past-2 : tie.Else3 → tie.Else2
+past-2 c = c .before .before .before
+
+abbrev Past : tie.Start → List ℕ → ℕ → Type 0
+Past s tags = RoutinePast (now (s .args .types)) tags (now (s .args .blocks)) (now (s .args .code)) (s .args .block)
+
+left-1 : (c : tie.Else1) (tags : List ℕ) → Past (start c) tags 1
+left-1 c tags = after-yes (routine-begins _ tags _ _ _) (c .before .before .code-lengths .ensures) (c .if1 .left)
+
+left-2 : (c : tie.Else2) (tags : List ℕ) → Past (start (past-1 c)) tags 2
+left-2 c tags = after-yes (left-1 (past-1 c) tags) (c .before .before .lengths .ensures .0) (c .if2 .left)
+
+left-3 : (c : tie.Else3) (tags : List ℕ) → Past (start (past-1 (past-2 c))) tags 3
+left-3 c tags = after-yes (left-2 (past-2 c) tags) (c .before .before .annotations .ensures _ tags _ refl) (c .if3 .left)
+
+code-lengths : (c : tie.Else1) → CodeLengths (length (now (start c .args .blocks))) (length (now (start c .args .code)))
+code-lengths c = code-lengths-passed _ _ _ (c .before .before .code-lengths .ensures) (c .if1 .left)
+
+-- ---- the needs
 
 code-lengths-requires : tie.Need-code-lengths-requires
 code-lengths-requires c κs = search needs
 
 returns : tie.Need-returns
-returns c = λ tags.
-    let a = c .before .before in
-    routine-stop-lengths _ tags _ _ _ _ (a .code-lengths .ensures) (c .if1 .taken)
+returns c = λ tags. at-no (routine-begins _ tags _ _ _) (c .before .before .code-lengths .ensures) (c .if1 .taken)
 
 lengths-requires : tie.Need-lengths-requires
-lengths-requires c κs =
-    let k = c .before in
-    let a = k .before .before in
-    omega (arith, code-lengths-passed _ _ _ (a .code-lengths .ensures) (k .if1 .left))
+lengths-requires c κs = omega (arith, code-lengths (c .before))
 
 returns-2 : tie.Need-returns-2
-returns-2 c = λ tags.
-    let b = c .before .before in
-    let k = b .before .before in
-    let a = k .before .before in
-    routine-stop-blocks _ tags _ _ _ _ (a .code-lengths .ensures) (k .if1 .left) _ (b .lengths .ensures .0) (c .if2 .taken)
+returns-2 c = λ tags. at-no (left-1 (c .before .before .before .before) tags) (c .before .before .lengths .ensures .0) (c .if2 .taken)
 
 cast-annotations : tie.Need-cast-annotations
 cast-annotations c = search needs
 
 annotations-requires : tie.Need-annotations-requires
-annotations-requires c κs =
-    let k = c .before .before .before .before in
-    let a = k .before .before in
-    omega (arith, code-lengths-passed _ _ _ (a .code-lengths .ensures) (k .if1 .left))
+annotations-requires c κs = code-lengths (past-1 c) .most
 
 returns-3 : tie.Need-returns-3
-returns-3 c = λ tags.
-    let d = c .before .before in
-    let m = d .before in
-    let b = m .before .before in
-    let k = b .before .before in
-    let a = k .before .before in
-    routine-stop-annotations _ tags _ _ _ _ (a .code-lengths .ensures) (k .if1 .left) _ (b .lengths .ensures .0) (m .if2 .left)
-    _ (d .annotations .ensures _ tags _ refl) (c .if3 .taken)
+returns-3 c = λ tags. at-no (left-2 (c .before .before .before) tags) (c .before .before .annotations .ensures _ tags _ refl) (c .if3 .taken)
 
 refused-requires : tie.Need-refused-requires
 refused-requires c κs = search needs
 
 returns-4 : tie.Need-returns-4
-returns-4 c = λ tags.
-    let n = c .before .before in
-    let d = n .before .before in
-    let m = d .before in
-    let b = m .before .before in
-    let k = b .before .before in
-    let a = k .before .before in
-    c .refused .ensures
-    ∙ routine-no-block _ tags _ _ _ _ (a .code-lengths .ensures) (k .if1 .left) _ (b .lengths .ensures .0) (m .if2 .left)
-    _ (d .annotations .ensures _ tags _ refl) (n .if3 .left) (omega arith)
+returns-4 c = λ tags. at-last (left-3 (c .before .before) tags) (c .refused .ensures ∙ start-no _ _ _ (omega arith))
 
 passed-requires : tie.Need-passed-requires
 passed-requires c κs = search needs
 
 returns-5 : tie.Need-returns-5
-returns-5 c = λ tags.
-    let n = c .before .before in
-    let d = n .before .before in
-    let m = d .before in
-    let b = m .before .before in
-    let k = b .before .before in
-    let a = k .before .before in
-    c .passed .ensures
-    ∙ routine-passes _ tags _ _ _ _ (a .code-lengths .ensures) (k .if1 .left) _ (b .lengths .ensures .0) (m .if2 .left)
-    _ (d .annotations .ensures _ tags _ refl) (n .if3 .left) (omega arith)
+returns-5 c = λ tags. at-last (left-3 (c .before .before) tags) (c .passed .ensures ∙ start-yes _ _ _ (omega arith))
 
 pub routine-spec : {M : Type 1} → statement M
 routine-spec =
