@@ -1,4 +1,4 @@
--- One law for each answer to Q17 and Q19, and for the questions before Q20 in their order.
+-- One law for each answer to Q17 and Q19, and the questions before Q20 in their order.
 use mathlib.Core.Path.{_≡_, refl, ap, _∙_}
 use mathlib.Core.Bool.{true, false}
 use mathlib.Core.List.{List, [], _∷_}

@@ -1,4 +1,4 @@
--- The table of owners of a passed layout, and one law for each answer to Q16, Q20, Q21 and the two checks.
+-- The table of owners of a passed layout, one law for each answer to Q20 and Q21, and the questions of the two checks in their order.
 use mathlib.Core.Path.{_≡_, refl, sym, ap, _∙_}
 use mathlib.Core.Bool.{true}
 use mathlib.Core.List.{List, [], _∷_}

@@ -1,4 +1,4 @@
--- Laws of the tables for the crates above: rows, and what each passed question gives.
+-- Laws of the tables for the crates above: rows, what each passed question gives, and the answers to Q16.
 use mathlib.Core.Path.{_≡_, refl, ap, sym, _∙_}
 use mathlib.Core.Bool.{Bool, true}
 use mathlib.Core.List.{List}

@@ -1,4 +1,4 @@
--- Laws of questions as a loop asks them: what the whole comes to one step on, at a no and at the end.
+-- Laws of questions as a loop asks them, and a list of them in order: what the whole comes to one step on, at a no and at the end.
 use mathlib.Core.Path.{_≡_, refl, ap, sym, _∙_}
 use mathlib.Core.Bool.{Bool, true, false}
 use mathlib.Core.List.{List, [], _∷_, _++_}
@@ -49,7 +49,7 @@ module _ {B : Type 0} (o : Outcome (Unit {0})) (k : Unit {0} → Outcome B) (v :
   unfolding then
   then-on z = rw (no-refusal o v e z)
 
-  pub then-stops : (v .number ≡ 0 → ⊥) → v ≡ verdictOf (then o k)
+  then-stops : (v .number ≡ 0 → ⊥) → v ≡ verdictOf (then o k)
   then-stops h = e ∙ stops o k (λ z. h (ap (λ (u : Verdict). u .number) e ∙ z))
 
 -- ---- a list of questions
@@ -97,6 +97,10 @@ module _ (f : ℕ → Outcome (Unit {0})) (n t : ℕ) (whole : Outcome (Unit {0}
   pub first-on : t < n → f t ≡ ok tt → whole ≡ firstNo (n - (t + 1)) (t + 1) f
   unfolding firstNo then
   first-on h l = rw (e, left n t h, l, add-one t)
+
+  pub first-no : t < n → (v : Verdict) → v ≡ verdictOf (f t) → (v .number ≡ 0 → ⊥) → v ≡ verdictOf whole
+  unfolding firstNo
+  first-no h v ev z = rw (e, left n t h) (then-stops _ _ v ev z)
 
   pub first-stops : t < n → (r : Refusal) → f t ≡ refused r → refusing r ≡ verdictOf whole
   unfolding firstNo then verdictOf

@@ -19,7 +19,7 @@ use Rattle.model.specs.Check.{valueIn, readPlain, readEdges, noAt, lastAt, read
 use Rattle.model.proofs.Logic.{byTest, byLess, pick-both, number-of, ok-same, not-ok}
 use Rattle.model.proofs.Lists.{length-upFrom}
 use Rattle.model.proofs.Inversion.{record-ok}
-use Rattle.table.proofs.Questions.{left, no-refusal, then-stops, first-on, inOrder, ComesTo}
+use Rattle.table.proofs.Questions.{left, inOrder, ComesTo}
 use Rattle.fits.specs.Numbers.{framesOf}
 use Rattle.straight.specs.State.{viewsOf, reading, numbered, earlyAsk}
 use Rattle.straight.proofs.Steps.{size-past}
@@ -183,25 +183,10 @@ module _ (blocks code : List ℕ) (b n : ℕ) (en : n ≡ headOf blocks b) where
 
 -- ---- all blocks
 
-module _ (types tags blocks code : List ℕ) where
-  abbrev pub judged : Outcome (Unit {0})
-  judged = judge (tablesOf types tags) (routineOf blocks code)
-
-  pub judge-begins : judged ≡ firstNo (rows blocks - 0) 0 (blockAsk (tablesOf types tags) (routineOf blocks code))
-  unfolding judge routineOf
-  judge-begins = rw sub-zero
-
-  module _ (b : ℕ) (e : judged ≡ firstNo (rows blocks - b) b (blockAsk (tablesOf types tags) (routineOf blocks code))) (h : b < rows blocks)
-      (v : Verdict) (ev : v ≡ verdictOf (blockAsk (tablesOf types tags) (routineOf blocks code) b)) where
-    pub judge-on : v .number ≡ 0 → judged ≡ firstNo (rows blocks - (b + 1)) (b + 1) (blockAsk (tablesOf types tags) (routineOf blocks code))
-    judge-on z = first-on _ (rows blocks) b judged e h (no-refusal _ v ev z)
-
-    pub judge-stops : (v .number ≡ 0 → ⊥) → v ≡ verdictOf judged
-    unfolding firstNo
-    judge-stops n =
-        then-stops (blockAsk (tablesOf types tags) (routineOf blocks code) b)
-        (λ _. firstNo (rows blocks - (b + 1)) (suc b) (blockAsk (tablesOf types tags) (routineOf blocks code))) v ev n
-        ∙ ap (λ (o : Outcome (Unit {0})). verdictOf o) (sym (e ∙ rw (left (rows blocks) b h)))
+pub judge-begins : (types tags blocks code : List ℕ)
+    → judge (tablesOf types tags) (routineOf blocks code) ≡ firstNo (rows blocks - 0) 0 (blockAsk (tablesOf types tags) (routineOf blocks code))
+unfolding judge routineOf
+judge-begins types tags blocks code = rw sub-zero
 
 -- ---- the check
 

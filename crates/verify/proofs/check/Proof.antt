@@ -1,9 +1,10 @@
 -- `verify::check` meets its contract: past each question, those left come to what all come to.
 use mathlib.Core.Path.{refl}
-use Prim.Native.Nat.{ℕ}
+use Prim.Native.Nat.{ℕ, _≤_}
 use native.Mathlib.Omega.{arith}
 use denote.Ref.{now}
 use lib.ListN.{length}
+use Rattle.model.specs.Table.{headOf}
 use Rattle.table.proofs.Laws.{TypeLengths, CodeLengths, type-lengths-passed, code-lengths-passed, size-bounds, block-bounds}
 use Rattle.table.proofs.Questions.{after-yes, at-no, at-last}
 use Rattle.verify.proofs.Blocks.{CheckPast, check-begins, sizes-small}
@@ -46,13 +47,16 @@ left-4 c = after-yes (left-3 (past-3 c)) (c .before .before .lengths .ensures .0
 left-5 : (c : tie.Else5) → Past (start (past-1 (past-2 (past-3 (past-4 c))))) 5
 left-5 c = after-yes (left-4 (past-4 c)) (c .before .before .annotations .ensures _ _ _ refl) (c .if5 .left)
 
--- ---- what the lengths are where they passed
+-- ---- what the lengths and the sizes are where they passed
 
 type-lengths : (c : tie.Else1) → TypeLengths (length (now (start c .args .types))) (length (now (start c .args .tags)))
 type-lengths c = type-lengths-passed _ _ _ (c .before .before .type-lengths .ensures) (c .if1 .left)
 
 code-lengths : (c : tie.Else2) → CodeLengths (length (now (start (past-1 c) .args .blocks))) (length (now (start (past-1 c) .args .code)))
 code-lengths c = code-lengths-passed _ _ _ (c .before .before .code-lengths .ensures) (c .if2 .left)
+
+sizes : (c : tie.Else3) (t : ℕ) → headOf (now (start (past-1 (past-2 c)) .args .types)) t ≤ 8
+sizes c = sizes-small _ (type-lengths (past-1 (past-2 c)) .whole) (size-bounds _ _ _ (c .before .before .types .ensures) (c .if3 .left))
 
 -- ---- the needs
 
@@ -91,17 +95,11 @@ returns-5 c = at-no (left-4 (c .before .before .before)) (c .before .before .ann
 
 judge-requires : tie.Need-judge-requires
 judge-requires c κs =
-    let c4 = past-4 (c .before) in
-    let c3 = past-3 c4 in
-    let c2 = past-2 c3 in
-    let whole = type-lengths (past-1 c2) .whole in (
-      code-lengths c2 .most,
-      code-lengths c2 .long,
-      whole,
-      sizes-small _ whole (size-bounds _ _ _ (c3 .before .before .types .ensures) (c3 .if3 .left)),
-      block-bounds _ _ _ (c4 .before .before .lengths .ensures .0) (c4 .if4 .left),
-      c4 .before .before .lengths .ensures .1 refl (c4 .if4 .left),
-    )
+    let d = past-4 (c .before) in
+    let e = past-2 (past-3 d) in
+    let l = d .before .before .lengths .ensures in
+    let b = code-lengths e in
+    (b .most, b .long, type-lengths (past-1 e) .whole, sizes (past-3 d), block-bounds _ _ _ (l .0) (d .if4 .left), l .1 refl (d .if4 .left))
 
 returns-6 : tie.Need-returns-6
 returns-6 c = at-last (left-5 (c .before .before)) (c .judge .ensures)

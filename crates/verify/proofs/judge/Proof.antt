@@ -5,12 +5,12 @@ use Prim.Native.Nat.{ℕ, _+_, _-_, _≤_}
 use native.Mathlib.Omega.{arith}
 use denote.Ref.{now}
 use lib.ListN.{length, getD}
-use Rattle.table.proofs.Questions.{first-end}
+use Rattle.table.proofs.Questions.{no-refusal, first-on, first-no, first-end}
 use Rattle.model.specs.Question.{firstNo}
 use Rattle.model.specs.Table.{tablesOf, routineOf, rows, headOf, startOf}
 use Rattle.model.specs.Check.{blockAsk, judge}
 use Rattle.instruction.specs.Rows.{opcodeRows}
-use Rattle.verify.proofs.Blocks.{judge-begins, judge-on, judge-stops}
+use Rattle.verify.proofs.Blocks.{judge-begins}
 use borrow.Author.Needs.{needs}
 use Rattle.verify.proofs.judge.Statement.{statement}
 use Rattle.verify.proofs.judge.Tie as tie
@@ -78,7 +78,7 @@ returns : tie.Need-returns Inv-loop μ-loop
 returns c =
     let k = c .before .before in
     let l = round k .loop in
-    judge-stops _ _ _ _ (l .b) (l .inv .0) (omega arith) _ (k .block .ensures) (c .if1 .taken)
+    first-no _ _ (l .b) _ (l .inv .0) (omega arith) _ (k .block .ensures) (c .if1 .taken)
 
 add-b : tie.Need-add-b Inv-loop μ-loop
 add-b c = omega arith
@@ -90,7 +90,7 @@ loop-again : tie.Need-loop-again Inv-loop μ-loop
 loop-again c =
     let k = c .before .before in
     let l = round k .loop in
-    (judge-on _ _ _ _ (l .b) (l .inv .0) (omega arith) _ (k .block .ensures) (c .if1 .left), omega arith, l .inv .2)
+    (first-on _ _ (l .b) _ (l .inv .0) (omega arith) (no-refusal _ _ (k .block .ensures) (c .if1 .left)), omega arith, l .inv .2)
 
 passed-requires : tie.Need-passed-requires Inv-loop μ-loop
 passed-requires c κs = search needs
