@@ -14,20 +14,34 @@ fn text(path: &str) -> String {
     })
 }
 
+/// The requests of a text, each with the comment that stands before it.
+fn labelled(text: &str) -> Vec<(&str, &str)> {
+    let mut label = "";
+    let mut requests = Vec::new();
+    for line in text.lines().filter(|l| !l.trim().is_empty()) {
+        if line.starts_with('#') {
+            label = line;
+        } else {
+            requests.push((label, line));
+        }
+    }
+    requests
+}
+
 fn main() {
     let paths: Vec<String> = std::env::args().skip(1).collect();
     for pair in paths.chunks_exact(2) {
         let (requests, answers) = (text(&pair[0]), text(&pair[1]));
-        let asked: Vec<&str> = requests.lines().filter(|l| !l.trim().is_empty() && !l.starts_with('#')).collect();
+        let asked = labelled(&requests);
         let wanted: Vec<&str> = answers.lines().collect();
         assert_eq!(asked.len(), wanted.len(), "{}: as many answers as requests", pair[0]);
         let mut count = 0;
-        for (line, right) in asked.iter().zip(wanted) {
+        for ((label, line), right) in asked.into_iter().zip(wanted) {
             if right.starts_with("malformed") {
                 continue;
             }
             let Some((request, c)) = read(line) else {
-                println!("vectors: {}: no request, though its answer is {right}\n{line}", pair[0]);
+                println!("vectors: {}: no request, though its answer is {right}\n{label}\n{line}", pair[0]);
                 exit(1)
             };
             let mut all = vec![("proved", answer::<Proved>(request, &c)), ("plain", answer::<Plain>(request, &c))];
@@ -37,7 +51,7 @@ fn main() {
             for (name, given) in all {
                 let given = given.to_string();
                 if given != right {
-                    println!("vectors: {}\n{line}\nright:  {right}\n{name}: {given}", pair[0]);
+                    println!("vectors: {}\n{label}\n{line}\nright:  {right}\n{name}: {given}", pair[0]);
                     exit(1);
                 }
             }
