@@ -1,5 +1,6 @@
 // Two barley lines, one plot each, and a moisture reading of 22 per cent on the second plot: a correction routine that sets the stage
 // before the weight is refused; the right one takes turns with a ranking, which sees the old plot or the new one and nothing between.
+mod assembly;
 mod plots;
 mod routines;
 

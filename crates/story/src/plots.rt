@@ -1,38 +1,26 @@
 // The record types of the trial database, and a memory with two plots.
 
-// Type 0 raw (weight, moisture), type 1 corrected (weight), type 2 plot (stage, pointer that the stage tells of).
+use super::assembly;
+
+// Weight, moisture.
+pub const RAW: u8 = 0;
+
+// Weight.
+pub const CORRECTED: u8 = 1;
+
+// Stage, pointer that the stage tells of.
+pub const PLOT: u8 = 2;
+
 pub fn types() -> [u32; 27] {
-    [
-        2,
-        0,
-        0,
-        0,
-        0,
-        0,
-        0,
-        0,
-        0,
-        1,
-        0,
-        0,
-        0,
-        0,
-        0,
-        0,
-        0,
-        0,
-        2,
-        0,
-        50331648,
-        0,
-        0,
-        0,
-        0,
-        0,
-        0,
-    ]
+    let mut types = [0u32; 27];
+    assembly::row(&mut types, RAW, 2);
+    assembly::row(&mut types, CORRECTED, 1);
+    assembly::row(&mut types, PLOT, 2);
+    assembly::typed(&mut types, PLOT, 1, assembly::tagged(0));
+    types
 }
 
+// Stage 0 is raw, stage 1 corrected.
 pub fn tags() -> [u32; 2] {
     [0, 1]
 }
