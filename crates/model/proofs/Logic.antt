@@ -2,12 +2,14 @@
 use mathlib.Core.Path.{_≡_, refl, sym, ap, subst, _∙_}
 use mathlib.Core.Logic.{_⊎_, inl, inr, _↔_}
 use mathlib.Core.Bool.{Bool, true, false, not, false≢true}
+use mathlib.Core.List.{List, [], _∷_}
 use Prim.Native.Nat.{ℕ, zero, suc, _+_, _-_, _≤_, _<_}
 use native.Mathlib.Omega.{arith}
 use lib.Dec.{ltb, leb, eqb}
-use lib.ListN.{List·getD-eq-default}
-use borrow.Author.Tests.{eqb-true, eqb-false, ltb-true, ltb-false}
-use Rattle.model.specs.Question.{_and_, _or_, pick, every, Question, numberOf, questions, questionOf, q1, q2, q3, q4, q5, q6, q7, q8, q9, q10, q11, q12, q13, q14, q15, q16, q17, q18, q19, q20, q21, q22, Refusal, Outcome, ok, refused, ask, then, firstNo, verdictOf}
+use borrow.Author.Tests.{eqb-true, eqb-false, ne-eqb, ltb-true, ltb-false}
+use Rattle.model.specs.Question.{_and_, _or_, pick, every, Question, numberOf, questions, withNumber, questionOf, isNumber, isAnswer}
+use Rattle.model.specs.Question.{q1, q2, q3, q4, q5, q6, q7, q8, q9, q10, q11, q12, q13, q14, q15, q16, q17, q18, q19, q20, q21, q22}
+use Rattle.model.specs.Question.{Refusal, Outcome, ok, refused, ask, then, firstNo, verdictOf}
 
 -- ---- tests
 
@@ -164,53 +166,64 @@ firstNo-refused (suc n) i f r e = go (f i) refl (λ k. firstNo-refused n (suc i)
 
 -- ---- numbers of questions
 
--- 1 to 22 are the numbers of their questions
-all-numbers : every 22 1 (λ k. eqb (numberOf (questionOf k)) k) ≡ true
-unfolding every questionOf _and_
-all-numbers = refl
+pub number-of : (n : ℕ) → isNumber n ≡ true → numberOf (questionOf n) ≡ n
+number-of n e = eqb-true _ _ e
 
-pub number-of : (n : ℕ) → 1 ≤ n → n ≤ 22 → numberOf (questionOf n) ≡ n
-number-of n l h = eqb-true _ _ (every-true 22 1 (λ k. eqb (numberOf (questionOf k)) k) all-numbers n l (omega arith))
+pub answer-number : (n : ℕ) → isAnswer n ≡ true → (n ≡ 0 → ⊥) → isNumber n ≡ true
+answer-number n e z = rw (ne-eqb n 0 z) at e
 
--- so is any number whose question is not q1
+-- what is found has the number, or is q1 for want of it
+found : (n : ℕ) (qs : List Question) → (withNumber n qs ≡ q1 → ⊥) → numberOf (withNumber n qs) ≡ n
+found n [] d = absurd (d refl)
+found n (q ∷ qs) d =
+    byTest (eqb (numberOf q) n) (λ e. rw e (eqb-true _ _ e))
+    (λ e. rw e (found n qs (λ h. d (rw e h))))
+
 pub number-unless : (n : ℕ) → (questionOf n ≡ q1 → ⊥) → numberOf (questionOf n) ≡ n
 unfolding questionOf
-number-unless n d =
-    byLess n 23 (λ h. byEqual n 0 (λ z. absurd (d (rw z))) (λ z. number-of n (omega arith) (omega arith)))
-    (λ h. absurd (d (List·getD-eq-default questions q1 {n = n - 1} (omega arith))))
+number-unless n d = found n questions d
+
+-- every question is in the list, and is that of its number
+listed : (q : Question) → questionOf (numberOf q) ≡ q
+unfolding questionOf
+listed q1 = refl
+listed q2 = refl
+listed q3 = refl
+listed q4 = refl
+listed q5 = refl
+listed q6 = refl
+listed q7 = refl
+listed q8 = refl
+listed q9 = refl
+listed q10 = refl
+listed q11 = refl
+listed q12 = refl
+listed q13 = refl
+listed q14 = refl
+listed q15 = refl
+listed q16 = refl
+listed q17 = refl
+listed q18 = refl
+listed q19 = refl
+listed q20 = refl
+listed q21 = refl
+listed q22 = refl
+
+-- a number of no question is that of none
+pub no-number : (n : ℕ) → isNumber n ≡ false → (q : Question) → numberOf q ≡ n → ⊥
+no-number n e q h = eqb-false _ _ e (rw h at (ap numberOf (listed q)))
 
 -- ---- verdicts
 
--- questions are numbered from 1 to 22
-pub number-bounds : (q : Question) → (1 ≤ numberOf q) × (numberOf q ≤ 22)
-number-bounds q1 = (omega arith, omega arith)
-number-bounds q2 = (omega arith, omega arith)
-number-bounds q3 = (omega arith, omega arith)
-number-bounds q4 = (omega arith, omega arith)
-number-bounds q5 = (omega arith, omega arith)
-number-bounds q6 = (omega arith, omega arith)
-number-bounds q7 = (omega arith, omega arith)
-number-bounds q8 = (omega arith, omega arith)
-number-bounds q9 = (omega arith, omega arith)
-number-bounds q10 = (omega arith, omega arith)
-number-bounds q11 = (omega arith, omega arith)
-number-bounds q12 = (omega arith, omega arith)
-number-bounds q13 = (omega arith, omega arith)
-number-bounds q14 = (omega arith, omega arith)
-number-bounds q15 = (omega arith, omega arith)
-number-bounds q16 = (omega arith, omega arith)
-number-bounds q17 = (omega arith, omega arith)
-number-bounds q18 = (omega arith, omega arith)
-number-bounds q19 = (omega arith, omega arith)
-number-bounds q20 = (omega arith, omega arith)
-number-bounds q21 = (omega arith, omega arith)
-number-bounds q22 = (omega arith, omega arith)
+none-zero : isNumber 0 ≡ false
+unfolding questionOf
+none-zero = refl
 
 -- the number 0 means that no question had a no
 pub verdict-ok : (o : Outcome (Unit {0})) → verdictOf o .number ≡ 0 → o ≡ ok tt
 unfolding verdictOf
 verdict-ok (ok u) e = refl
-verdict-ok (refused r) e = absurd (omega (arith, number-bounds (r .question) .0))
+verdict-ok (refused r) e = absurd (no-number 0 none-zero (r .question) e)
 
 pub ok-verdict : (o : Outcome (Unit {0})) → o ≡ ok tt → verdictOf o .number ≡ 0
 unfolding verdictOf

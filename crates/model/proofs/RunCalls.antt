@@ -9,10 +9,10 @@ use native.Mathlib.Nat.{zero-add, add-zero}
 use lib.Dec.{ltb, leb, eqb}
 use lib.ListN.{length}
 use borrow.Author.Tests.{ltb-true, lt-ltb, le-leb}
-use Rattle.model.specs.Question.{_and_, _or_, Question, numberOf, Refusal, Outcome, ok, refused}
+use Rattle.model.specs.Question.{_and_, _or_, Question, numberOf, questionOf, Refusal, Outcome, ok, refused}
 use Rattle.model.specs.Table.{Routine, routineOf, codeLengthsAsk, lengthsAsk}
 use Rattle.model.specs.Machine.{State, step, halts, faults, atHalt, indexOf, Passes, here, Ran, halted, paused, faulted, runBlocks, Run, answerAt, answerOf, refusedRun, startAsk, memoryLengthAsk, runAsk, begin, opened, run}
-use Rattle.model.proofs.Logic.{byTest, number-bounds, true-and, ask-ok, ok-ask, passed-then, ok-then, not-ok}
+use Rattle.model.proofs.Logic.{byTest, no-number, true-and, ask-ok, ok-ask, passed-then, ok-then, not-ok}
 use Rattle.model.proofs.BlockSound.{Sized}
 use Rattle.model.proofs.TableLaws.{sized, memory-length}
 use Rattle.model.proofs.MachineLaws.{OfCode, of-7, of-8, of-9, of-18, of-22, fault-asks, Placed, placed, index-below, Last, pausing, halting, faulting, blocks-last, halt-stays, resume, blocks-plus, later, laterRan, blocks-later}
@@ -171,7 +171,8 @@ gone a c =
     }
 
 not-forty : (q : Question) → numberOf q ≡ 40 → ⊥
-not-forty q e = omega (arith, number-bounds q .1)
+unfolding questionOf
+not-forty q e = no-number 40 refl q e
 
 answer-later : (P : Routine) (s : State) (x : Ran) → answerOf P (laterRan (s .finished) (s .carried) x) ≡ gone (answerAt P 40 s) (answerOf P x)
 unfolding answerOf laterRan

@@ -1,8 +1,8 @@
 -- Questions, the first no with its place, and the verdict made of it: what every call answers with.
 use mathlib.Core.Bool.{Bool, true, false}
 use mathlib.Core.List.{List, [], _∷_}
-use Prim.Native.Nat.{ℕ, zero, suc, _-_}
-use lib.ListN.{getD}
+use Prim.Native.Nat.{ℕ, zero, suc}
+use lib.Dec.{eqb}
 use Rattle.model.specs.declared.Verdict.{Verdict}
 
 -- ---- tests
@@ -79,9 +79,22 @@ numberOf q22 = 22
 abbrev pub questions : List Question
 questions = q1 ∷ q2 ∷ q3 ∷ q4 ∷ q5 ∷ q6 ∷ q7 ∷ q8 ∷ q9 ∷ q10 ∷ q11 ∷ q12 ∷ q13 ∷ q14 ∷ q15 ∷ q16 ∷ q17 ∷ q18 ∷ q19 ∷ q20 ∷ q21 ∷ q22 ∷ []
 
--- the question of a number, q1 where it is the number of none
+-- the first of some questions that has a number, q1 where none has
+abbrev pub withNumber : ℕ → List Question → Question
+withNumber n [] = q1
+withNumber n (q ∷ qs) = pick (eqb (numberOf q) n) q (withNumber n qs)
+
+-- the question of a number
 unfoldable pub questionOf : ℕ → Question
-questionOf n = getD questions (n - 1) q1
+questionOf n = withNumber n questions
+
+-- n is the number of a question
+abbrev pub isNumber : ℕ → Bool
+isNumber n = eqb (numberOf (questionOf n)) n
+
+-- or 0, which says that no question had a no
+abbrev pub isAnswer : ℕ → Bool
+isAnswer n = pick (eqb n 0) true (isNumber n)
 
 -- 01: 'The first no gives the number and a place of two numbers'
 pub record Refusal : Type 0 where
