@@ -7,12 +7,13 @@ use lib.Dec.{eqb}
 use Rattle.model.specs.Question.{_or_}
 use Rattle.model.specs.declared.Verdict.{Verdict}
 use Rattle.model.specs.declared.RunAnswer.{RunAnswer}
-use Rattle.model.specs.Machine.{returned, begin}
-use Rattle.model.specs.Turns.{Task, World, waiting, Call, turn, running, settled, standingAfter, turnRun, turned, afterCall, atStart}
+use Rattle.model.specs.Machine.{returned}
+use Rattle.model.specs.Turns.{Ready, Task, World, waiting, Call, turn, running, settled, standingBy, stateOf, turnRun, turned, afterCall}
 use Rattle.model.specs.Safety.{Demand3, Checked, Fit, Safe, Ends, pauses, halting}
 use Rattle.model.proofs.Safe.{demand-3}
 use Rattle.model.proofs.ChecksAgain.{memory-again, entry-again}
-use Rattle.loader.specs.Delivery.{RunGave, standing, Passed, with, Calls, none, checked as check-made, memoryChecked, entryChecked, turned as turn-made, ran, Holds, TurnHolds, Delivers, Delivered}
+use Rattle.loader.specs.Delivery.{RunGave, Passed, with, Calls, none, checked as check-made, memoryChecked, entryChecked}
+use Rattle.loader.specs.Delivery.{turned as turn-made, ran, Holds, TurnHolds, Delivers, Delivered}
 
 number-of : {v u : Verdict} → v ≡ u → u .number ≡ 0 → v .number ≡ 0
 number-of e z = ap (λ (v : Verdict). v .number) e ∙ z
@@ -34,11 +35,11 @@ module _ (types tags allocations memory : List ℕ) (n : ℕ) (tasks : ℕ → T
       }
 
   -- the world that the definitions make of a turn is the one that is made of what the call gave
-  turn-leads : (w : World) (i budget b : ℕ) (r : List ℕ) (a : RunAnswer) (left : List ℕ) → w .standing i ≡ waiting b r
-      → RunGave (tasks i .blocks) (tasks i .code) (w .memory) b r budget a left
-      → afterCall tasks (turn i budget) w ≡ settled w i left (standing a)
-  unfolding afterCall turned standingAfter
-  turn-leads w i budget b r a left e (ea, el) = rw (e, ea, el) refl
+  turn-leads : (w : World) (i budget : ℕ) (g : Ready) (a : RunAnswer) (left : List ℕ) → w .standing i ≡ waiting g
+      → RunGave (tasks i .blocks) (tasks i .code) (w .memory) (g .block) (g .registers) budget a left
+      → afterCall tasks (turn i budget) w ≡ settled w i left (standingBy a)
+  unfolding afterCall turned
+  turn-leads w i budget g a left e (ea, el) = rw (e, ea, el) refl
 
   -- After a list of calls every list of the definitions is safe: the last call is one more at its head.
   all-safe : (w : World) → Made w → (calls : List Call) → Safe types tags allocations memory n tasks calls w
@@ -47,8 +48,9 @@ module _ (types tags allocations memory : List ℕ) (n : ℕ) (tasks : ℕ → T
   all-safe w (check-made x y z t u p g) calls = all-safe w p calls
   all-safe w (memoryChecked {w = v} x y z u left p (eu, el)) calls = rw el (all-safe v p calls)
   all-safe w (entryChecked {w = v} x y z t c b r u left p (eu, el)) calls = rw el (all-safe v p calls)
-  all-safe w (turn-made {w = v} i budget b r a left p e g) calls =
-      subst (λ (x : World). Safe types tags allocations memory n tasks calls x) (turn-leads v i budget b r a left e g) (all-safe v p (turn i budget ∷ calls) .2 tt)
+  all-safe w (turn-made {w = v} i budget g a left p e q) calls =
+      subst (λ (x : World). Safe types tags allocations memory n tasks calls x) (turn-leads v i budget g a left e q)
+      (all-safe v p (turn i budget ∷ calls) .2 tt)
   all-safe w (ran {w = v} blocks code b r budget a left p o (ea, el)) calls = rw el (all-safe v p (running blocks code b r budget ∷ calls) .2 o)
 
   holds : (w : World) → Fit types tags allocations memory n tasks w → AllHolds w
@@ -56,23 +58,23 @@ module _ (types tags allocations memory : List ℕ) (n : ℕ) (tasks : ℕ → T
       record {
         fit = F;
         memoryPasses = λ v left g. number-of (g .0) (memory-again types tags allocations memory n tasks checked w F);
-        entryPasses = λ i b r v left h e g. number-of (g .0) (entry-again types tags allocations memory n tasks checked w F i b r h e);
+        entryPasses = λ i g v left h e q. number-of (q .0) (entry-again types tags allocations memory n tasks checked w F i g h e);
       }
 
   -- a turn's answer is that of its last state
-  halted-or-paused : (w : World) (i budget b : ℕ) (r : List ℕ) (a : RunAnswer) → a ≡ returned (turnRun tasks w i budget b r)
-      → Ends types tags allocations memory n tasks i budget (begin b r (w .memory)) (turnRun tasks w i budget b r)
+  halted-or-paused : (w : World) (i budget : ℕ) (g : Ready) (a : RunAnswer) → a ≡ returned (turnRun tasks w i budget g)
+      → Ends types tags allocations memory n tasks i budget (stateOf g (w .memory)) (turnRun tasks w i budget g)
       → eqb (a .number) 0 or eqb (a .number) 40 ≡ true
   unfolding _or_
-  halted-or-paused w i budget b r a e (pauses p f z q) = rw (e, q) refl
-  halted-or-paused w i budget b r a e (halting p f h q) = rw (e, q) refl
+  halted-or-paused w i budget g a e (pauses p f z q) = rw (e, q) refl
+  halted-or-paused w i budget g a e (halting p f h q) = rw (e, q) refl
 
-  turn-holds : (w : World) → Made w → (i budget b : ℕ) (r : List ℕ) (a : RunAnswer) → w .standing i ≡ waiting b r → a ≡ returned (turnRun tasks w i budget b r)
-      → TurnHolds types tags allocations memory n tasks w i budget b r a
-  turn-holds w p i budget b r a e q =
-      let T = all-safe w p (turn i budget ∷ []) .1 b r e in
+  turn-holds : (w : World) → Made w → (i budget : ℕ) (g : Ready) (a : RunAnswer) → w .standing i ≡ waiting g
+      → a ≡ returned (turnRun tasks w i budget g) → TurnHolds types tags allocations memory n tasks w i budget g a
+  turn-holds w p i budget g a e q =
+      let T = all-safe w p (turn i budget ∷ []) .1 g e in
       record {
-        answers = halted-or-paused w i budget b r a q (T .ends);
+        answers = halted-or-paused w i budget g a q (T .ends);
         safe = T;
         blockEnds = λ s v z. holds _ (T .blockEnds s v z);
       }
@@ -88,10 +90,13 @@ module _ (types tags allocations memory : List ℕ) (n : ℕ) (tasks : ℕ → T
   delivers w none = after w none
   delivers w (check-made x y z t u p g) = delivers w p
   delivers w (memoryChecked {w = v} x y z u left p g) = (delivers v p, unchanged v left (g .1), after w (memoryChecked x y z u left p g))
-  delivers w (entryChecked {w = v} x y z t c b r u left p g) = (delivers v p, unchanged v left (g .1), after w (entryChecked x y z t c b r u left p g))
-  delivers w (turn-made {w = v} i budget b r a left p e g) = (delivers v p, turn-holds v p i budget b r a e (g .0), after w (turn-made i budget b r a left p e g))
+  delivers w (entryChecked {w = v} x y z t c b r u left p g) =
+      (delivers v p, unchanged v left (g .1), after w (entryChecked x y z t c b r u left p g))
+  delivers w (turn-made {w = v} i budget g a left p e q) =
+      (delivers v p, turn-holds v p i budget g a e (q .0), after w (turn-made i budget g a left p e q))
   delivers w (ran {w = v} blocks code b r budget a left p o g) =
-      (delivers v p, unchanged v left (g .1 ∙ ap (λ (x : World). x .memory) (all-safe v p (running blocks code b r budget ∷ []) .1 o)), after w (ran blocks code b r budget a left p o g))
+      let same = g .1 ∙ ap (λ (x : World). x .memory) (all-safe v p (running blocks code b r budget ∷ []) .1 o) in
+      (delivers v p, unchanged v left same, after w (ran blocks code b r budget a left p o g))
 
 pub delivered : Delivered
 unfolding Delivered

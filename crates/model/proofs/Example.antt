@@ -11,7 +11,7 @@ use Rattle.model.specs.Machine.{formed, byOpcode, decode, effect, addres
 use Rattle.model.specs.Reading.{typed, constantsOf, some, sameDep, isSame, saysSame, knownEqual, tagOf, beyond, knownTag, knownZero, isRef, isMaybe, isTagged, isPresent, isSpan, fits, rowFits, firstTag, referenceOf, laidAt, zeros, upFrom, entry, born, fresh, moves, movedWord, loaded, viewed, look, stored, notZero, below, notBelow, taken, untaken}
 use Rattle.model.specs.Check.{withReference, onRecord, readPlain, readEdges, readInstruction, readOn, blockAsk, judge, checkAsk, check}
 use Rattle.model.specs.MemoryCheck.{whenTrue, unlessTrue, startsTest, runTest, rankTest, tagTest, meets, fieldAsk, recordsAsk, registerAsk, layoutAsk, memoryAsk, memoryCheck, entryAsk, entryCheck}
-use Rattle.model.specs.Turns.{standingAfter, turned, afterCall, atStart, Task, Standing, waiting, done, World, Call, turn, checkingMemory, running}
+use Rattle.model.specs.Turns.{ready, turned, afterCall, atStart, Task, Standing, waiting, done, World, Call, turn, checkingMemory, running}
 use Rattle.model.specs.Safety.{Checked, Safe}
 use Rattle.model.specs.Cases.{plotTypes, plotTags, row, refWord, sameWord, constantByte, storeWord, jumpWord, haltWord, stageBlocks, stageCode}
 use Rattle.model.proofs.Safe.{demand-3}
@@ -33,11 +33,11 @@ abbrev correctionCode : List ℕ
 correctionCode = jumpWord 1 ∷ storeWord 5 1 0 ∷ storeWord 4 1 1 ∷ haltWord ∷ []
 
 abbrev correction : Task
-correction = record { blocks = correctionBlocks; code = correctionCode; start = 0; registers = 0 ∷ 1 ∷ 0 ∷ 0 ∷ 8 ∷ 1 ∷ 0 ∷ 0 ∷ [] }
+correction = record { blocks = correctionBlocks; code = correctionCode; start = ready 0 (0 ∷ 1 ∷ 0 ∷ 0 ∷ 8 ∷ 1 ∷ 0 ∷ 0 ∷ []) }
 
 -- the ranking: reads the corrected weight of the plot in r1 where its stage is 1
 abbrev ranking : Task
-ranking = record { blocks = stageBlocks 1; code = stageCode; start = 0; registers = 0 ∷ 1 ∷ 0 ∷ 0 ∷ 0 ∷ 0 ∷ 0 ∷ 0 ∷ [] }
+ranking = record { blocks = stageBlocks 1; code = stageCode; start = ready 0 (0 ∷ 1 ∷ 0 ∷ 0 ∷ 0 ∷ 0 ∷ 0 ∷ 0 ∷ []) }
 
 -- routine 0 is the correction; there are two routines, the second the ranking
 abbrev pub tasks : ℕ → Task
@@ -45,7 +45,7 @@ tasks zero = correction
 tasks (suc i) = ranking
 
 pub checked : Checked plotTypes plotTags allocations memory 2 tasks
-unfolding _and_ _or_ every ask then firstNo verdictOf product typeOf rename rowOf tablesOf startOf routineOf typeLengthsAsk codeLengthsAsk countAsk wellMade fieldWell fieldsAsk tagAsk typesAsk blocksAsk lengthsAsk annotationWell annotationAsk annotationsAsk isAllocated laid rowsAsk allocationsAsk formed byOpcode decode effect addressed registersAfter memoryAfter next targetsExist need leave perform step onward finish steps runBlocks answerOf startAsk memoryLengthAsk runAsk opened run typed constantsOf some sameDep isSame saysSame knownEqual tagOf beyond knownTag knownZero isRef isMaybe isTagged isPresent isSpan fits rowFits firstTag referenceOf laidAt zeros upFrom entry born fresh moves movedWord loaded viewed look stored notZero below notBelow taken untaken withReference onRecord readPlain readEdges readInstruction readOn blockAsk judge checkAsk check whenTrue unlessTrue startsTest runTest rankTest tagTest meets fieldAsk recordsAsk registerAsk layoutAsk memoryAsk memoryCheck entryAsk entryCheck standingAfter turned afterCall atStart
+unfolding _and_ _or_ every ask then firstNo verdictOf product typeOf rename rowOf tablesOf startOf routineOf typeLengthsAsk codeLengthsAsk countAsk wellMade fieldWell fieldsAsk tagAsk typesAsk blocksAsk lengthsAsk annotationWell annotationAsk annotationsAsk isAllocated laid rowsAsk allocationsAsk formed byOpcode decode effect addressed registersAfter memoryAfter next targetsExist need leave perform step onward finish steps runBlocks answerOf startAsk memoryLengthAsk runAsk opened run typed constantsOf some sameDep isSame saysSame knownEqual tagOf beyond knownTag knownZero isRef isMaybe isTagged isPresent isSpan fits rowFits firstTag referenceOf laidAt zeros upFrom entry born fresh moves movedWord loaded viewed look stored notZero below notBelow taken untaken withReference onRecord readPlain readEdges readInstruction readOn blockAsk judge checkAsk check whenTrue unlessTrue startsTest runTest rankTest tagTest meets fieldAsk recordsAsk registerAsk layoutAsk memoryAsk memoryCheck entryAsk entryCheck turned afterCall atStart
 checked =
     record {
       memoryPassed = refl;
@@ -58,11 +58,11 @@ checked =
     accepts zero = refl
     accepts (suc i) = refl
 
-    eight : (i : ℕ) → lib.ListN.length (tasks i .registers) ≡ 8
+    eight : (i : ℕ) → lib.ListN.length (tasks i .start .registers) ≡ 8
     eight zero = refl
     eight (suc i) = refl
 
-    enters : (i : ℕ) → entryCheck plotTypes plotTags allocations memory (tasks i .blocks) (tasks i .code) (tasks i .start) (tasks i .registers) .number ≡ 0
+    enters : (i : ℕ) → entryCheck plotTypes plotTags allocations memory (tasks i .blocks) (tasks i .code) (tasks i .start .block) (tasks i .start .registers) .number ≡ 0
     enters zero = refl
     enters (suc i) = refl
 
@@ -81,9 +81,9 @@ abbrev calls : List Call
 calls = turn 0 1 ∷ turn 1 1 ∷ turn 0 0 ∷ checkingMemory [] [] [] [] ∷ turn 0 7 ∷ turn 1 9 ∷ turn 0 3 ∷ running [] [] 0 [] 5 ∷ []
 
 pub plot-corrected : afterAll calls (atStart tasks 2 memory) .memory ≡ 0 ∷ 1 ∷ 8 ∷ 1 ∷ 7 ∷ 8600 ∷ 22 ∷ 9100 ∷ 7800 ∷ 4 ∷ []
-unfolding _and_ _or_ every ask then firstNo verdictOf product typeOf rename rowOf tablesOf startOf routineOf typeLengthsAsk codeLengthsAsk countAsk wellMade fieldWell fieldsAsk tagAsk typesAsk blocksAsk lengthsAsk annotationWell annotationAsk annotationsAsk isAllocated laid rowsAsk allocationsAsk formed byOpcode decode effect addressed registersAfter memoryAfter next targetsExist need leave perform step onward finish steps runBlocks answerOf startAsk memoryLengthAsk runAsk opened run typed constantsOf some sameDep isSame saysSame knownEqual tagOf beyond knownTag knownZero isRef isMaybe isTagged isPresent isSpan fits rowFits firstTag referenceOf laidAt zeros upFrom entry born fresh moves movedWord loaded viewed look stored notZero below notBelow taken untaken withReference onRecord readPlain readEdges readInstruction readOn blockAsk judge checkAsk check whenTrue unlessTrue startsTest runTest rankTest tagTest meets fieldAsk recordsAsk registerAsk layoutAsk memoryAsk memoryCheck entryAsk entryCheck standingAfter turned afterCall atStart
+unfolding _and_ _or_ every ask then firstNo verdictOf product typeOf rename rowOf tablesOf startOf routineOf typeLengthsAsk codeLengthsAsk countAsk wellMade fieldWell fieldsAsk tagAsk typesAsk blocksAsk lengthsAsk annotationWell annotationAsk annotationsAsk isAllocated laid rowsAsk allocationsAsk formed byOpcode decode effect addressed registersAfter memoryAfter next targetsExist need leave perform step onward finish steps runBlocks answerOf startAsk memoryLengthAsk runAsk opened run typed constantsOf some sameDep isSame saysSame knownEqual tagOf beyond knownTag knownZero isRef isMaybe isTagged isPresent isSpan fits rowFits firstTag referenceOf laidAt zeros upFrom entry born fresh moves movedWord loaded viewed look stored notZero below notBelow taken untaken withReference onRecord readPlain readEdges readInstruction readOn blockAsk judge checkAsk check whenTrue unlessTrue startsTest runTest rankTest tagTest meets fieldAsk recordsAsk registerAsk layoutAsk memoryAsk memoryCheck entryAsk entryCheck turned afterCall atStart
 plot-corrected = refl
 
 pub both-halted : (afterAll calls (atStart tasks 2 memory) .standing 0 ≡ done) × (afterAll calls (atStart tasks 2 memory) .standing 1 ≡ done)
-unfolding _and_ _or_ every ask then firstNo verdictOf product typeOf rename rowOf tablesOf startOf routineOf typeLengthsAsk codeLengthsAsk countAsk wellMade fieldWell fieldsAsk tagAsk typesAsk blocksAsk lengthsAsk annotationWell annotationAsk annotationsAsk isAllocated laid rowsAsk allocationsAsk formed byOpcode decode effect addressed registersAfter memoryAfter next targetsExist need leave perform step onward finish steps runBlocks answerOf startAsk memoryLengthAsk runAsk opened run typed constantsOf some sameDep isSame saysSame knownEqual tagOf beyond knownTag knownZero isRef isMaybe isTagged isPresent isSpan fits rowFits firstTag referenceOf laidAt zeros upFrom entry born fresh moves movedWord loaded viewed look stored notZero below notBelow taken untaken withReference onRecord readPlain readEdges readInstruction readOn blockAsk judge checkAsk check whenTrue unlessTrue startsTest runTest rankTest tagTest meets fieldAsk recordsAsk registerAsk layoutAsk memoryAsk memoryCheck entryAsk entryCheck standingAfter turned afterCall atStart
+unfolding _and_ _or_ every ask then firstNo verdictOf product typeOf rename rowOf tablesOf startOf routineOf typeLengthsAsk codeLengthsAsk countAsk wellMade fieldWell fieldsAsk tagAsk typesAsk blocksAsk lengthsAsk annotationWell annotationAsk annotationsAsk isAllocated laid rowsAsk allocationsAsk formed byOpcode decode effect addressed registersAfter memoryAfter next targetsExist need leave perform step onward finish steps runBlocks answerOf startAsk memoryLengthAsk runAsk opened run typed constantsOf some sameDep isSame saysSame knownEqual tagOf beyond knownTag knownZero isRef isMaybe isTagged isPresent isSpan fits rowFits firstTag referenceOf laidAt zeros upFrom entry born fresh moves movedWord loaded viewed look stored notZero below notBelow taken untaken withReference onRecord readPlain readEdges readInstruction readOn blockAsk judge checkAsk check whenTrue unlessTrue startsTest runTest rankTest tagTest meets fieldAsk recordsAsk registerAsk layoutAsk memoryAsk memoryCheck entryAsk entryCheck turned afterCall atStart
 both-halted = (refl, refl)

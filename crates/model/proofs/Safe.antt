@@ -10,9 +10,10 @@ use borrow.Author.Tests.{ltb-true, eqb-true}
 use Rattle.model.specs.Question.{pick, Outcome, ok}
 use Rattle.model.specs.Table.{Tables, tablesOf, Routine, routineOf}
 use Rattle.model.specs.Allocation.{Allocated}
-use Rattle.model.specs.Machine.{State, step, Passes, Ran, halted, paused, faulted, runBlocks, Run, answerAt, answerOf, begin, run, atHalt}
+use Rattle.model.specs.Machine.{State, step, Passes, Ran, halted, paused, faulted, runBlocks, Run, answerAt, answerOf, run, returned, atHalt}
 use Rattle.model.specs.Check.{judge, blockAsk, check}
-use Rattle.model.specs.Turns.{Task, Standing, waiting, done, World, Call, turn, checking, checkingMemory, checkingEntry, running, settled, standingAfter, turnRun, turned, afterCall, atStart, Allowed}
+use Rattle.model.specs.Turns.{Ready, ready, Task, Standing, waiting, done, World, Call, turn, checking, checkingMemory, checkingEntry}
+use Rattle.model.specs.Turns.{running, settled, standingBy, stateOf, turnRun, turned, afterCall, atStart, Allowed}
 use Rattle.model.specs.Safety.{Checked, Fit, InField, Ends, pauses, halting, TurnSafe, CallSafe, Safe, Demand3}
 use Rattle.model.proofs.Logic.{byTest, byEqual, firstNo-ok, ok-firstNo}
 use Rattle.model.proofs.Lawful.{Lawful, Tabled}
@@ -26,10 +27,10 @@ use Rattle.model.proofs.RunSound.{RunSafe, run-safe}
 use Rattle.model.proofs.RunCalls.{Opens, run-is, run-last, run-untouched}
 use Rattle.model.proofs.Exactly.{Accepted, check-exactly, judge-exactly}
 
-waiting-same : {b c : ℕ} {r s : List ℕ} → waiting b r ≡ waiting c s → (b ≡ c) × (r ≡ s)
-waiting-same e = (cc, cc)
+waiting-same : {g h : Ready} → waiting g ≡ waiting h → g ≡ h
+waiting-same e = cc
 
-not-waiting : {b : ℕ} {r : List ℕ} → done ≡ waiting b r → ⊥
+not-waiting : {g : Ready} → done ≡ waiting g → ⊥
 not-waiting e = let z : _≡_ {A = ℕ} 0 1 = cc in omega arith
 
 -- what is known of an accepted routine
@@ -70,94 +71,108 @@ module _ (types tags allocations memory : List ℕ) (n : ℕ) (tasks : ℕ → T
   accepted : (i : ℕ) → i < n → Accepted types tags (tasks i .blocks) (tasks i .code)
   accepted i h = check-exactly types tags (tasks i .blocks) (tasks i .code) .0 (C .accepted i h)
 
-  ready : (i : ℕ) → i < n → Prepared 𝒯 (P i)
-  ready i h = prepared types tags (tasks i .blocks) (tasks i .code) (accepted i h)
+  sound : (i : ℕ) → i < n → Prepared 𝒯 (P i)
+  sound i h = prepared types tags (tasks i .blocks) (tasks i .code) (accepted i h)
 
   -- ---- worlds
 
   -- a world in which everything fits, and in which those that wait are routines of the list with eight registers
   record Good (w : World) : Type 0 where
     fit : WorldFit w
-    mine : (i b : ℕ) (r : List ℕ) → w .standing i ≡ waiting b r → (i < n) × (length r ≡ 8)
+    mine : (i : ℕ) (g : Ready) → w .standing i ≡ waiting g → (i < n) × (length (g .registers) ≡ 8)
 
   memory-fit : (w : World) → WorldFit w → MemoryFit 𝒯 (Allocated allocations) memory (w .memory)
   memory-fit w F = record { records = F .records; kept = record { long = F .long; outside = F .outside } }
 
-  stands : (w : World) → Good w → (i b : ℕ) (r : List ℕ) → w .standing i ≡ waiting b r → Stands 𝒯 (Allocated allocations) (P i) b r
-  stands w G i b r e = record { exists = G .fit .registers i b r e .0; eight = G .mine i b r e .1; meets = G .fit .registers i b r e .1 }
+  -- what a routine goes on with meets its block's annotation
+  abbrev Standable : ℕ → Ready → Type 0
+  Standable i g = Stands 𝒯 (Allocated allocations) (P i) (g .block) (g .registers)
+
+  stands : (w : World) → Good w → (i : ℕ) (g : Ready) → w .standing i ≡ waiting g → Standable i g
+  stands w G i g e = let (exists, meets) = G .fit .registers i g e in record { exists = exists; eight = G .mine i g e .1; meets = meets }
 
   -- where one routine comes to stand anew
   settled-good : (w : World) (i : ℕ) (m : List ℕ) (x : Standing) → Good w → MemoryFit 𝒯 (Allocated allocations) memory m
-      → ((b : ℕ) (r : List ℕ) → x ≡ waiting b r → (i < n) × Stands 𝒯 (Allocated allocations) (P i) b r) → Good (settled w i m x)
+      → ((g : Ready) → x ≡ waiting g → (i < n) × Standable i g) → Good (settled w i m x)
   settled-good w i m x G M h =
       record {
         fit = record {
           records = M .records;
-          registers = λ j b r e. byTest (eqb j i)
-              (λ q. let s = h b r (rw q at e) .1 in rw (eqb-true j i q) (s .exists, s .meets))
-              (λ q. G .fit .registers j b r (rw q at e));
+          registers = λ j g e. byTest (eqb j i)
+              (λ q. let s = h g (rw q at e) .1 in rw (eqb-true j i q) (s .exists, s .meets))
+              (λ q. G .fit .registers j g (rw q at e));
           long = M .kept .long;
           outside = M .kept .outside;
         };
-        mine = λ j b r e. byTest (eqb j i)
-            (λ q. let s = h b r (rw q at e) in (rw (eqb-true j i q) (s .0), s .1 .eight))
-            (λ q. G .mine j b r (rw q at e));
+        mine = λ j g e. byTest (eqb j i)
+            (λ q. let s = h g (rw q at e) in (rw (eqb-true j i q) (s .0), s .1 .eight))
+            (λ q. G .mine j g (rw q at e));
       }
 
-  waits-good : (w : World) (i b : ℕ) (r m : List ℕ) → Good w → i < n → MemoryFit 𝒯 (Allocated allocations) memory m → Stands 𝒯 (Allocated allocations) (P i) b r → Good (settled w i m (waiting b r))
-  waits-good w i b r m G h M S = settled-good w i m (waiting b r) G M (λ c s e. let (eb, er) = waiting-same e in (h, rw (← eb, ← er) S))
+  waits-good : (w : World) (i : ℕ) (g : Ready) (m : List ℕ) → Good w → i < n → MemoryFit 𝒯 (Allocated allocations) memory m
+      → Standable i g → Good (settled w i m (waiting g))
+  waits-good w i g m G h M S = settled-good w i m (waiting g) G M (λ k e. (h, rw (← waiting-same e) S))
 
   done-good : (w : World) (i : ℕ) (m : List ℕ) → Good w → MemoryFit 𝒯 (Allocated allocations) memory m → Good (settled w i m done)
-  done-good w i m G M = settled-good w i m done G M (λ b r e. absurd (not-waiting e))
+  done-good w i m G M = settled-good w i m done G M (λ g e. absurd (not-waiting e))
 
   -- ---- a turn
 
-  module _ (w : World) (G : Good w) (i k b : ℕ) (r : List ℕ) (e : w .standing i ≡ waiting b r) where
+  module _ (w : World) (G : Good w) (i k : ℕ) (g : Ready) (e : w .standing i ≡ waiting g) where
     abbrev s₀ : State
-    s₀ = begin b r (w .memory)
+    s₀ = stateOf g (w .memory)
 
     mine : i < n
-    mine = G .mine i b r e .0
+    mine = G .mine i g e .0
 
-    opening : Opens (tasks i .blocks) (tasks i .code) (w .memory) b
+    opening : Opens (tasks i .blocks) (tasks i .code) (w .memory) (g .block)
     opening =
         let A = accepted i mine in
-        record { codeLengths = A .codeLengths; lengths = A .lengths; exists = G .fit .registers i b r e .0; bound = rw (G .fit .long) (layout .asked-length) }
+        record {
+          codeLengths = A .codeLengths;
+          lengths = A .lengths;
+          exists = G .fit .registers i g e .0;
+          bound = rw (G .fit .long) (layout .asked-length);
+        }
 
-    safe : RunSafe 𝒯 (Allocated allocations) memory narrow (layout .law) (layout .tab) (P i) (ready i mine .names) (ready i mine .sizes) (ready i mine .blocks) k s₀
-    safe = run-safe 𝒯 (Allocated allocations) memory narrow (layout .law) (layout .tab) (P i) (ready i mine .names) (ready i mine .sizes) (ready i mine .blocks) k s₀ refl (stands w G i b r e) (memory-fit w (G .fit))
+    safe : RunSafe 𝒯 (Allocated allocations) memory narrow (layout .law) (layout .tab) (P i)
+        (sound i mine .names) (sound i mine .sizes) (sound i mine .blocks) k s₀
+    safe =
+        run-safe 𝒯 (Allocated allocations) memory narrow (layout .law) (layout .tab) (P i)
+        (sound i mine .names) (sound i mine .sizes) (sound i mine .blocks) k s₀ refl (stands w G i g e) (memory-fit w (G .fit))
 
     -- how the run ends, and the world after it
     record Ended : Type 0 where
-      ends : Ends types tags allocations memory n tasks i k s₀ (turnRun tasks w i k b r)
-      good : Good (settled w i (turnRun tasks w i k b r .memory) (standingAfter (turnRun tasks w i k b r)))
+      ends : Ends types tags allocations memory n tasks i k s₀ (turnRun tasks w i k g)
+      good : Good (settled w i (turnRun tasks w i k g .memory) (standingBy (returned (turnRun tasks w i k g))))
 
-    ended-by : (x : Ran) → turnRun tasks w i k b r ≡ answerOf (P i) x → Last (P i) k s₀ x → Ended
-    unfolding answerOf standingAfter
+    ended-by : (x : Ran) → turnRun tasks w i k g ≡ answerOf (P i) x → Last (P i) k s₀ x → Ended
+    unfolding answerOf
     ended-by x q (pausing {s = s} p f z) =
         let (B, M) = safe .blockEnds s p z in
-        record { ends = pauses p f z q; good = rw q (waits-good w i (s .block) (s .registers) (s .memory) G mine M B) }
+        record { ends = pauses p f z q; good = rw q (waits-good w i (ready (s .block) (s .registers)) (s .memory) G mine M B) }
     ended-by x q (last-halting {s = s} {s' = s'} p f h) =
         record { ends = halting p f h q; good = rw q (done-good w i (s' .memory) G (safe .atHalt s s' p h)) }
     ended-by x q (faulting {s = s} {q = y} p f h) = absurd (safe .faultless s s y p h)
 
     ended : Ended
     ended =
-        ended-by (runBlocks (P i) k s₀) (run-is (tasks i .blocks) (tasks i .code) (w .memory) b r k opening)
-        (run-last (tasks i .blocks) (tasks i .code) (w .memory) b r k opening)
+        ended-by (runBlocks (P i) k s₀) (run-is (tasks i .blocks) (tasks i .code) (w .memory) (g .block) (g .registers) k opening)
+        (run-last (tasks i .blocks) (tasks i .code) (w .memory) (g .block) (g .registers) k opening)
 
     in-field : (s : State) (c d : ℕ)
-        → Field 𝒯 (Allocated allocations) memory narrow (layout .law) (layout .tab) (P i) (ready i mine .names) (ready i mine .sizes) (ready i mine .blocks) s c d
+        → Field 𝒯 (Allocated allocations) memory narrow (layout .law) (layout .tab) (P i)
+        (sound i mine .names) (sound i mine .sizes) (sound i mine .blocks) s c d
         → InField types tags allocations memory n tasks i s c d
     in-field s c d F = (F .type, F .said, F .base, F .below, F .unwrapped)
 
-    turn-safe : TurnSafe types tags allocations memory n tasks w i k b r
+    turn-safe : TurnSafe types tags allocations memory n tasks w i k g
     turn-safe =
         record {
           ends = ended .ends;
           loads = λ s p a c d q. in-field s c d (safe .loads s p a c d q);
           stores = λ s p a c d q. in-field s c d (safe .stores s p a c d q);
-          blockEnds = λ s p z. let (B, M) = safe .blockEnds s p z in waits-good w i (s .block) (s .registers) (s .memory) G mine M B .fit;
+          blockEnds = λ s p z. let (B, M) = safe .blockEnds s p z in waits-good w i (ready (s .block) (s .registers)) (s .memory) G mine M B .fit;
           atHalt = λ s s' p h. done-good w i (s' .memory) G (safe .atHalt s s' p h) .fit;
         }
 
@@ -165,17 +180,18 @@ module _ (types tags allocations memory : List ℕ) (n : ℕ) (tasks : ℕ → T
 
   turned-good : (w : World) → Good w → (i k : ℕ) (x : Standing) → w .standing i ≡ x → Good (turned tasks w i k x)
   unfolding turned
-  turned-good w G i k (waiting b r) e = ended w G i k b r e .good
+  turned-good w G i k (waiting g) e = ended w G i k g e .good
   turned-good w G i k done e = G
 
   -- a run that carries nothing out changes nothing
-  nothing-done : (w : World) (blocks code : List ℕ) (b : ℕ) (r : List ℕ) (k : ℕ) → Allowed (running blocks code b r k) w → afterCall tasks (running blocks code b r k) w ≡ w
+  nothing-done : (w : World) (blocks code : List ℕ) (b : ℕ) (r : List ℕ) (k : ℕ) → Allowed (running blocks code b r k) w
+      → afterCall tasks (running blocks code b r k) w ≡ w
   unfolding afterCall
   nothing-done w blocks code b r k a =
       ap (λ (m : List ℕ). let v : World = record { memory = m; standing = w .standing } in v) (run-untouched blocks code (w .memory) b r k a .memory)
 
   call-safe : (c : Call) (w : World) → Good w → CallSafe types tags allocations memory n tasks c w
-  call-safe (turn i k) w G = λ b r e. turn-safe w G i k b r e
+  call-safe (turn i k) w G = λ g e. turn-safe w G i k g e
   call-safe (checking a b c d) w G = tt
   call-safe (checkingMemory a b c d) w G = tt
   call-safe (checkingEntry a b c d e f g h) w G = tt
@@ -195,27 +211,27 @@ module _ (types tags allocations memory : List ℕ) (n : ℕ) (tasks : ℕ → T
 
   -- ---- the start
 
-  entered : (i : ℕ) → i < n → Stands 𝒯 (Allocated allocations) (P i) (tasks i .start) (tasks i .registers)
+  entered : (i : ℕ) → i < n → Standable i (tasks i .start)
   entered i h =
       let (m, q) = C .entered i h in
-      let E = entry-exactly types tags allocations m (tasks i .blocks) (tasks i .code) (tasks i .start) (tasks i .registers) .0 q in
+      let E = entry-exactly types tags allocations m (tasks i .blocks) (tasks i .code) (tasks i .start .block) (tasks i .start .registers) .0 q in
       record { exists = E .exists; eight = C .eight i h; meets = E .registersMeet }
 
   start-good : Good (atStart tasks n memory)
   unfolding atStart
   start-good =
-      let at : (i b : ℕ) (r : List ℕ) → pick (ltb i n) (waiting (tasks i .start) (tasks i .registers)) done ≡ waiting b r → (i < n) × Stands 𝒯 (Allocated allocations) (P i) b r =
-      λ i b r e. byTest (ltb i n)
-      (λ q. let (eb, er) = waiting-same (rw q at e) in let h = ltb-true i n q in (h, rw (← eb, ← er) (entered i h)))
+      let at : (i : ℕ) (g : Ready) → pick (ltb i n) (waiting (tasks i .start)) done ≡ waiting g → (i < n) × Standable i g =
+      λ i g e. byTest (ltb i n)
+      (λ q. let h = ltb-true i n q in (h, rw (← waiting-same (rw q at e)) (entered i h)))
       (λ q. absurd (not-waiting (rw q at e))) in
       record {
         fit = record {
           records = passes .records;
-          registers = λ i b r e. let s = at i b r e .1 in (s .exists, s .meets);
+          registers = λ i g e. let s = at i g e .1 in (s .exists, s .meets);
           long = refl;
           outside = λ x o. refl;
         };
-        mine = λ i b r e. let s = at i b r e in (s .0, s .1 .eight);
+        mine = λ i g e. let s = at i g e in (s .0, s .1 .eight);
       }
 
   start-safe : (calls : List Call) → Safe types tags allocations memory n tasks calls (atStart tasks n memory)

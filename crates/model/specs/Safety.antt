@@ -8,10 +8,11 @@ use Rattle.model.specs.Word.{sum}
 use Rattle.model.specs.Table.{Tables, tablesOf, Routine, routineOf}
 use Rattle.model.specs.Meaning.{RecordMeets, RegistersMeet, Outside}
 use Rattle.model.specs.Allocation.{Allocated}
-use Rattle.model.specs.Machine.{load, store, plain, instructionAt, reg, State, halts, step, Passes, begin, Run, answerAt}
+use Rattle.model.specs.Machine.{load, store, plain, instructionAt, reg, State, halts, step, Passes, Run, answerAt}
 use Rattle.model.specs.Check.{given, check}
 use Rattle.model.specs.MemoryCheck.{memoryCheck, entryCheck}
-use Rattle.model.specs.Turns.{Task, waiting, done, World, Call, turn, checking, checkingMemory, checkingEntry, running, settled, turnRun, afterCall, atStart, Allowed}
+use Rattle.model.specs.Turns.{Ready, ready, Task, waiting, done, World, Call, turn, checking, checkingMemory, checkingEntry, running}
+use Rattle.model.specs.Turns.{settled, stateOf, turnRun, afterCall, atStart, Allowed}
 
 -- The n routines of tasks, over a type table, a tag table, a list of allocations and a memory.
 module _ (types tags allocations memory : List ℕ) (n : ℕ) (tasks : ℕ → Task) where
@@ -26,13 +27,15 @@ module _ (types tags allocations memory : List ℕ) (n : ℕ) (tasks : ℕ → T
   pub record Checked : Type 0 where
     pub memoryPassed : memoryCheck types tags allocations memory .number ≡ 0
     pub accepted : (i : ℕ) → i < n → check types tags (tasks i .blocks) (tasks i .code) .number ≡ 0
-    pub eight : (i : ℕ) → i < n → length (tasks i .registers) ≡ 8
-    pub entered : (i : ℕ) → i < n → (m : List ℕ) × (entryCheck types tags allocations m (tasks i .blocks) (tasks i .code) (tasks i .start) (tasks i .registers) .number ≡ 0)
+    pub eight : (i : ℕ) → i < n → length (tasks i .start .registers) ≡ 8
+    pub entered : (i : ℕ) → i < n → (m : List ℕ)
+        × (entryCheck types tags allocations m (tasks i .blocks) (tasks i .code) (tasks i .start .block) (tasks i .start .registers) .number ≡ 0)
 
   -- All records, and the registers of every routine that has not halted, fit their types; each word outside is as at the start.
   pub record Fit (w : World) : Type 0 where
     pub records : (p t : ℕ) → Allocated allocations p t → RecordMeets 𝒯 (Allocated allocations) (w .memory) p t
-    pub registers : (i b : ℕ) (r : List ℕ) → w .standing i ≡ waiting b r → (b < P i .count) × RegistersMeet 𝒯 (Allocated allocations) (P i .annotation b) r
+    pub registers : (i : ℕ) (g : Ready) → w .standing i ≡ waiting g
+        → (g .block < P i .count) × RegistersMeet 𝒯 (Allocated allocations) (P i .annotation (g .block)) (g .registers)
     pub long : length (w .memory) ≡ length memory
     pub outside : (x : ℕ) → Outside 𝒯 (Allocated allocations) x → getD (w .memory) x 0 ≡ getD memory x 0
 
@@ -48,19 +51,19 @@ module _ (types tags allocations memory : List ℕ) (n : ℕ) (tasks : ℕ → T
     pauses : {s : State} → Passes (P i) budget s₀ s → s .finished ≡ budget → s .offset ≡ 0 → a ≡ answerAt (P i) 40 s → Ends i budget s₀ a
     halting : {s s' : State} → Passes (P i) budget s₀ s → s .finished < budget → step (P i) s ≡ halts s' → a ≡ answerAt (P i) 0 s' → Ends i budget s₀ a
 
-  abbrev pub Visits : World → ℕ → ℕ → ℕ → List ℕ → State → Type 0
-  Visits w i budget b r s = Passes (P i) budget (begin b r (w .memory)) s
+  abbrev pub Visits : World → ℕ → ℕ → Ready → State → Type 0
+  Visits w i budget g s = Passes (P i) budget (stateOf g (w .memory)) s
 
   -- What holds of every state that a turn passes through, block ends inside the run and the halt among them.
-  pub record TurnSafe (w : World) (i budget b : ℕ) (r : List ℕ) : Type 0 where
-    pub ends : Ends i budget (begin b r (w .memory)) (turnRun tasks w i budget b r)
-    pub loads : (s : State) → Visits w i budget b r s → (a c d : ℕ) → instructionAt (P i) (s .block) (s .offset) ≡ plain (load a c d) → InField i s c d
-    pub stores : (s : State) → Visits w i budget b r s → (a c d : ℕ) → instructionAt (P i) (s .block) (s .offset) ≡ plain (store a c d) → InField i s c d
-    pub blockEnds : (s : State) → Visits w i budget b r s → s .offset ≡ 0 → Fit (settled w i (s .memory) (waiting (s .block) (s .registers)))
-    pub atHalt : (s s' : State) → Visits w i budget b r s → step (P i) s ≡ halts s' → Fit (settled w i (s' .memory) done)
+  pub record TurnSafe (w : World) (i budget : ℕ) (g : Ready) : Type 0 where
+    pub ends : Ends i budget (stateOf g (w .memory)) (turnRun tasks w i budget g)
+    pub loads : (s : State) → Visits w i budget g s → (a c d : ℕ) → instructionAt (P i) (s .block) (s .offset) ≡ plain (load a c d) → InField i s c d
+    pub stores : (s : State) → Visits w i budget g s → (a c d : ℕ) → instructionAt (P i) (s .block) (s .offset) ≡ plain (store a c d) → InField i s c d
+    pub blockEnds : (s : State) → Visits w i budget g s → s .offset ≡ 0 → Fit (settled w i (s .memory) (waiting (ready (s .block) (s .registers))))
+    pub atHalt : (s s' : State) → Visits w i budget g s → step (P i) s ≡ halts s' → Fit (settled w i (s' .memory) done)
 
   abbrev pub CallSafe : Call → World → Type 0
-  CallSafe (turn i budget) w = (b : ℕ) (r : List ℕ) → w .standing i ≡ waiting b r → TurnSafe w i budget b r
+  CallSafe (turn i budget) w = (g : Ready) → w .standing i ≡ waiting g → TurnSafe w i budget g
   CallSafe (checking types' tags' blocks code) w = Unit {0}
   CallSafe (checkingMemory types' tags' allocations' memory') w = Unit {0}
   CallSafe (checkingEntry types' tags' allocations' memory' blocks code b r) w = Unit {0}
