@@ -4,7 +4,7 @@ ghost use mathlib.Core.List.{List};
 ghost use Prim.Native.Nat.{ℕ, suc, _+_, _*_, _≤_, _<_};
 ghost use lib.ListN.{length};
 ghost use mathlib.Core.Bool.{true};
-ghost use Rattle.model.specs.Question.{Question, Refusal};
+ghost use Rattle.model.specs.Question.{Question, Refusal, isAnswer};
 ghost use Rattle.model.specs.Word.{opcodeOf, aOf, bOf};
 ghost use Rattle.model.specs.Table.{rows, wordsOf};
 ghost use Rattle.model.specs.Machine.{decode, targetsExist, ifEqual, ifLess};
@@ -139,7 +139,7 @@ fn equal_edges(
     ensures { λ r. ⌜ ((place : Question → Refusal) (types code views fields : List ℕ) (since base : ℕ)
         → numbered place r tt ≡ readEdges (tablesIn types tags) (routineIn blocks code) place next (ifEqual a k t)
         (readingIn registers words frames constants views fields since base))
-        × (r ≤ 15) ⌝ }
+        × (isAnswer r ≡ true) ⌝ }
 {
     let v = registers[a];
     if !edge(
@@ -190,7 +190,7 @@ fn less_edges(
     ensures { λ r. ⌜ ((place : Question → Refusal) (types code views fields : List ℕ) (since base : ℕ)
         → numbered place r tt ≡ readEdges (tablesIn types tags) (routineIn blocks code) place next (ifLess a b t)
         (readingIn registers words frames constants views fields since base))
-        × (r ≤ 15) ⌝ }
+        × (isAnswer r ≡ true) ⌝ }
 {
     let v = registers[a];
     let u = fits::wide(registers[b]);
@@ -234,7 +234,7 @@ fn edges(
     ensures { λ r. ⌜ ((place : Question → Refusal) (types code views fields : List ℕ) (since base : ℕ)
         → numbered place r tt ≡ readEdges (tablesIn types tags) (routineIn blocks code) place (suc b) (endOf word)
         (readingIn registers words frames constants views fields since base))
-        × (r ≤ 15) ⌝ }
+        × (isAnswer r ≡ true) ⌝ }
 {
     let op = word::opcode(word);
     if op == instruction::HALT {
@@ -303,7 +303,7 @@ pub fn last(
     ensures { λ r. ⌜ ((place : Question → Refusal) (types code views fields : List ℕ) (since : ℕ)
         → numbered place r tt ≡ lastAsk (tablesIn types tags) (routineIn blocks code) place b (decode word)
         (readingIn registers words frames constants views fields since base))
-        × (r ≤ 15) ⌝ }
+        × (isAnswer r ≡ true) ⌝ }
 {
     let count = (blocks.len() / table::ROW_WORDS) as u32;
     let no = instruction::form(rows, word, true, b as u32, count);

@@ -6,7 +6,7 @@ use mathlib.Core.List.{List, [], _∷_}
 use Prim.Native.Nat.{ℕ, zero, suc, _+_, _-_, _≤_, _<_}
 use native.Mathlib.Omega.{arith}
 use lib.Dec.{ltb, leb, eqb}
-use borrow.Author.Tests.{eqb-true, eqb-false, ne-eqb, ltb-true, ltb-false}
+use borrow.Author.Tests.{eqb-true, eqb-false, eq-eqb, ne-eqb, ltb-true, ltb-false}
 use Rattle.model.specs.Question.{_and_, _or_, pick, every, Question, numberOf, questions, withNumber, questionOf, isNumber, isAnswer}
 use Rattle.model.specs.Question.{q1, q2, q3, q4, q5, q6, q7, q8, q9, q10, q11, q12, q13, q14, q15, q16, q17, q18, q19, q20, q21, q22}
 use Rattle.model.specs.Question.{Refusal, Outcome, ok, refused, ask, then, firstNo, verdictOf}
@@ -172,6 +172,9 @@ number-of n e = eqb-true _ _ e
 pub answer-number : (n : ℕ) → isAnswer n ≡ true → (n ≡ 0 → ⊥) → isNumber n ≡ true
 answer-number n e z = rw (ne-eqb n 0 z) at e
 
+pub answer-none : (n : ℕ) → n ≡ 0 → isAnswer n ≡ true
+answer-none n e = rw e
+
 -- what is found has the number, or is q1 for want of it
 found : (n : ℕ) (qs : List Question) → (withNumber n qs ≡ q1 → ⊥) → numberOf (withNumber n qs) ≡ n
 found n [] d = absurd (d refl)
@@ -208,6 +211,11 @@ listed q19 = refl
 listed q20 = refl
 listed q21 = refl
 listed q22 = refl
+
+pub answer-of : (n : ℕ) (q : Question) → n ≡ numberOf q → isAnswer n ≡ true
+answer-of n q e =
+    let i : isNumber (numberOf q) ≡ true = rw (listed q) (eq-eqb (numberOf q) (numberOf q) refl) in
+    rw e (byTest (eqb (numberOf q) 0) (λ z. rw z) (λ z. rw z i))
 
 -- a number of no question is that of none
 pub no-number : (n : ℕ) → isNumber n ≡ false → (q : Question) → numberOf q ≡ n → ⊥

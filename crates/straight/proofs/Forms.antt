@@ -4,14 +4,14 @@ use mathlib.Core.Logic.{inl, inr}
 use mathlib.Core.Bool.{Bool, true, false}
 use Prim.Native.Nat.{ℕ, _≤_}
 use native.Mathlib.Omega.{arith}
-use Rattle.model.specs.Question.{Question, questionOf, Refusal}
+use Rattle.model.specs.Question.{Question, q7, q8, q9, questionOf, isAnswer, Refusal}
 use Rattle.model.specs.Word.{opcodeOf, aOf, bOf, cOf}
 use Rattle.model.specs.Table.{Tables}
 use Rattle.model.specs.Machine.{constant, copy, add, subtract, multiply, divide, move, load, store, Instruction, plain, end, malformed, decode}
 use Rattle.model.specs.Machine.{wellFormed}
 use Rattle.model.specs.Reading.{Reading}
 use Rattle.model.specs.Check.{readPlain}
-use Rattle.model.proofs.Logic.{byTest, byEqual, byLess}
+use Rattle.model.proofs.Logic.{byTest, byEqual, byLess, answer-none, answer-of}
 use Rattle.instruction.specs.Form.{leadsOn, formNo}
 use Rattle.instruction.proofs.Forms.{row-1, row-2, row-3, row-4, row-5, row-6, row-7, row-8, row-9, decoded, registers}
 use Rattle.instruction.proofs.Laws.{form-malformed, form-early}
@@ -61,13 +61,13 @@ module _ (𝒯 : Tables) (place : Question → Refusal) (b count : ℕ) (n : ℕ
   early-no g (plain x) st st′ e z ez = absurd (d e)
   early-no g (end x) st st′ e z ez = rw (ez, e)
 
-pub form-bound : (i : Instruction) (last : Bool) (b count n : ℕ) → n ≡ formNo i last b count → n ≤ 15
+pub form-answers : (i : Instruction) (last : Bool) (b count n : ℕ) → n ≡ formNo i last b count → isAnswer n ≡ true
 unfolding formNo
-form-bound malformed last b count n e = rw e (omega arith)
-form-bound (plain x) true b count n e = rw e (omega arith)
-form-bound (plain x) false b count n e = rw e (omega arith)
-form-bound (end x) true b count n e = byTest (leadsOn (end x) b count) (λ q. rw (e, q) (omega arith)) (λ q. rw (e, q) (omega arith))
-form-bound (end x) false b count n e = rw e (omega arith)
+form-answers malformed last b count n e = answer-of n q7 e
+form-answers (plain x) true b count n e = answer-of n q8 e
+form-answers (plain x) false b count n e = answer-none n e
+form-answers (end x) true b count n e = byTest (leadsOn (end x) b count) (λ q. answer-none n (e ∙ rw q)) (λ q. answer-of n q9 (e ∙ rw q))
+form-answers (end x) false b count n e = answer-of n q8 e
 
 pub early-on : (𝒯 : Tables) (place : Question → Refusal) (g w : ℕ) (st : Reading) → decode w ≡ plain (plainOf w)
     → readPlain 𝒯 place g (plainOf w) st ≡ earlyAsk 𝒯 place g (decode w) st

@@ -44,7 +44,7 @@ after registers words frames constants views fields since base =
     since base
 
 -- a reading with no refusal so far, a place for eight fields, and a table of whole rows whose sizes are at most 8
-pub record Ready (number : ℕ) (types fields : List ℕ) : Type 0 where
+pub record Underway (number : ℕ) (types fields : List ℕ) : Type 0 where
   pub goes-on : number ≡ 0
   pub eight : length fields ≡ 8
   pub whole : length types % 9 ≡ 0

@@ -8,15 +8,15 @@ ghost use mathlib.Core.List.{List};
 ghost use Prim.Native.Nat.{ℕ, _+_, _*_, _%_, _≤_, _<_};
 ghost use lib.ListN.{length, set};
 ghost use lib.Dec.{eqb, ltb};
-ghost use mathlib.Core.Bool.{not};
-ghost use Rattle.model.specs.Question.{_and_, _or_, Question, Refusal};
+ghost use mathlib.Core.Bool.{true, not};
+ghost use Rattle.model.specs.Question.{_and_, _or_, Question, Refusal, isAnswer};
 ghost use Rattle.model.specs.Table.{tablesOf, headOf};
 ghost use Rattle.model.specs.Machine.{decode};
 ghost use Rattle.model.specs.Reading.{laidAt, upFrom, steady, movedWord, look, rowFits};
 ghost use Rattle.model.specs.Check.{readPlain};
 ghost use Rattle.instruction.specs.Rows.{opcodeRows};
 ghost use Rattle.fits.specs.Numbers.{tablesIn, valuesIn};
-ghost use Rattle.straight.specs.State.{reading, before, after, Ready, Formed, numbered, plainOf, loadAsk, storeAsk, touched, earlyAsk};
+ghost use Rattle.straight.specs.State.{reading, before, after, Underway, Formed, numbered, plainOf, loadAsk, storeAsk, touched, earlyAsk};
 use model::Reference;
 
 // Numbers of the questions asked of code.
@@ -217,7 +217,7 @@ fn load(registers: &mut [u8; 8], fields: &[u8; 8], s: Progress, x: Transfer) -> 
         → numbered place (r .number) (reading (now (registers .exit)) words frames constants views (now (fields .entry)) (r .since) (r .base))
         ≡ loadAsk (tablesOf types tags) place (x .a) (x .v) (x .c)
         (reading (now (registers .entry)) words frames constants views (now (fields .entry)) (s .since) (s .base)))
-        × (r .number ≤ 12) ⌝ }
+        × (isAnswer (r .number) ≡ true) ⌝ }
 {
     if may_touch(s.base, x.v) {
         let a = x.a;
@@ -278,7 +278,7 @@ fn store(
         (reading registers (now (words .entry)) (now (frames .entry)) (now (constants .entry)) views (now (fields .exit)) (r .since) (r .base))
         ≡ storeAsk (tablesIn (now (types .entry)) tags) place (x .g) (x .v) (x .t) (x .c) value
         (reading registers (now (words .entry)) (now (frames .entry)) (now (constants .entry)) views (now (fields .entry)) (s .since) (s .base)))
-        × (r .number ≤ 12) ⌝ }
+        × (isAnswer (r .number) ≡ true) ⌝ }
 {
     if !may_touch(s.base, x.v) {
         return refused(OTHER_RECORD, s);
@@ -325,12 +325,12 @@ fn touch(
     s: Progress,
     x: Transfer,
 ) -> Progress
-    requires { ⌜ (x .g < 32) × (x .a < 8) × Ready (s .number) (now types) (now fields) ⌝ }
+    requires { ⌜ (x .g < 32) × (x .a < 8) × Underway (s .number) (now types) (now fields) ⌝ }
     ensures { λ r. ⌜ ((place : Question → Refusal)
         → numbered place (r .number) (after registers words frames constants views fields (r .since) (r .base))
         ≡ touched (tablesIn (now (types .entry)) tags) place (x .g) (x .loads) (x .a) (x .v) (x .t) (x .c)
         (before registers words frames constants views fields (s .since) (s .base)))
-        × (r .number ≤ 12) ⌝ }
+        × (isAnswer (r .number) ≡ true) ⌝ }
 {
     let n = size(types, x.t);
     if n <= x.c {
@@ -368,12 +368,12 @@ fn access(
     fields: &mut [u8; 8],
     i: Fetched,
 ) -> Progress
-    requires { ⌜ Formed 8 (i .word) × (i .g < 32) × Ready (i .s .number) (now types) (now fields) ⌝ }
+    requires { ⌜ Formed 8 (i .word) × (i .g < 32) × Underway (i .s .number) (now types) (now fields) ⌝ }
     ensures { λ r. ⌜ ((place : Question → Refusal)
         → numbered place (r .number) (after registers words frames constants views fields (r .since) (r .base))
         ≡ readPlain (tablesIn (now (types .entry)) tags) place (i .g) (plainOf (i .word))
         (before registers words frames constants views fields (i .s .since) (i .s .base)))
-        × (r .number ≤ 12) ⌝ }
+        × (isAnswer (r .number) ≡ true) ⌝ }
 {
     let s = i.s;
     let word = i.word;
@@ -420,12 +420,12 @@ fn step(
     fields: &mut [u8; 8],
     i: Fetched,
 ) -> Progress
-    requires { ⌜ Formed 1 (i .word) × (i .g < 32) × Ready (i .s .number) (now types) (now fields) ⌝ }
+    requires { ⌜ Formed 1 (i .word) × (i .g < 32) × Underway (i .s .number) (now types) (now fields) ⌝ }
     ensures { λ r. ⌜ ((place : Question → Refusal)
         → numbered place (r .number) (after registers words frames constants views fields (r .since) (r .base))
         ≡ readPlain (tablesIn (now (types .entry)) tags) place (i .g) (plainOf (i .word))
         (before registers words frames constants views fields (i .s .since) (i .s .base)))
-        × (r .number ≤ 12) ⌝ }
+        × (isAnswer (r .number) ≡ true) ⌝ }
 {
     let word = i.word;
     let op = word::opcode(word);
@@ -479,12 +479,12 @@ pub fn early(
     fields: &mut [u8; 8],
     i: Fetched,
 ) -> Progress
-    requires { ⌜ (now rows ≡ opcodeRows) × (i .g < 32) × Ready (i .s .number) (now types) (now fields) ⌝ }
+    requires { ⌜ (now rows ≡ opcodeRows) × (i .g < 32) × Underway (i .s .number) (now types) (now fields) ⌝ }
     ensures { λ r. ⌜ ((place : Question → Refusal)
         → numbered place (r .number) (after registers words frames constants views fields (r .since) (r .base))
         ≡ earlyAsk (tablesIn (now (types .entry)) tags) place (i .g) (decode (i .word))
         (before registers words frames constants views fields (i .s .since) (i .s .base)))
-        × (r .number ≤ 15) ⌝ }
+        × (isAnswer (r .number) ≡ true) ⌝ }
 {
     let word = i.word;
     let no = instruction::form(rows, word, false, 0, 0);

@@ -9,14 +9,14 @@ use native.Mathlib.Omega.{arith}
 use lib.ListN.{length, getD, take, drop, replicate, length-take, length-drop, length-set}
 use borrow.Author.Tests.{eq-eqb, ne-eqb}
 use Rattle.model.specs.declared.Verdict.{Verdict}
-use Rattle.model.specs.Question.{_and_, every, Question, questionOf, isNumber, Refusal, refusal, Outcome, ok, refused, ask, then, firstNo, verdictOf}
+use Rattle.model.specs.Question.{Question, questionOf, isAnswer, Refusal, refusal, Outcome, ok, refused, ask, then, firstNo, verdictOf}
 use Rattle.model.specs.Table.{Tables, tablesOf, Routine, routineOf, rows, headOf, wordsOf, startOf, typeLengthsAsk, codeLengthsAsk, typesAsk}
 use Rattle.model.specs.Table.{lengthsAsk, annotationsAsk}
 use Rattle.model.specs.Machine.{Plain, constant, copy, add, subtract, multiply, divide, move, load, store, Instruction, plain, end, malformed}
 use Rattle.model.specs.Machine.{decode, targetsExist}
 use Rattle.model.specs.Reading.{Reading, isOpen, seen, laidAt, zeros, upFrom, entry, fresh, viewed, look, loaded, stored}
 use Rattle.model.specs.Check.{valueIn, readPlain, readEdges, noAt, lastAt, readInstruction, readAt, readOn, blockAsk, judge, checkAsk, check}
-use Rattle.model.proofs.Logic.{byTest, byLess, pick-both, every-true, number-of, ok-same, not-ok}
+use Rattle.model.proofs.Logic.{byTest, byLess, pick-both, number-of, answer-number, ok-same, not-ok}
 use Rattle.model.proofs.Lists.{length-upFrom}
 use Rattle.model.proofs.Inversion.{record-ok}
 use Rattle.table.proofs.Questions.{left, inOrder, ComesTo}
@@ -43,14 +43,6 @@ module _ {A : Type 0} (place : Question → Refusal) (z : ℕ) (a : A) where
       at-suc : (k : ℕ) → (k ≡ 0 → ⊥) → numbered place k a ≡ refused (place (questionOf k))
       at-suc zero n = absurd (n refl)
       at-suc (suc k) n = refl
-
--- 1 to 15 are numbers of questions
-fifteen : every 15 1 isNumber ≡ true
-unfolding every questionOf _and_
-fifteen = refl
-
-low : (z : ℕ) → (z ≡ 0 → ⊥) → z ≤ 15 → isNumber z ≡ true
-low z n l = every-true 15 1 isNumber fifteen z (omega arith) (omega arith)
 
 -- ---- one instruction of a block
 
@@ -89,9 +81,9 @@ module _ (𝒯 : Tables) (P : Routine) (b n j : ℕ) (st : Reading) (w : ℕ) (e
     unfolding readOn then
     read-on e = rw (left n j (omega arith), at, numbered-ok (noAt 𝒯 P b j) z st′ e, add-one j)
 
-    pub read-stops : (z ≡ 0 → ⊥) → z ≤ 15 → verdict z b (P .start b + j) ≡ verdictOf (readOn 𝒯 P b (n - j) j st)
+    pub read-stops : (z ≡ 0 → ⊥) → isAnswer z ≡ true → verdict z b (P .start b + j) ≡ verdictOf (readOn 𝒯 P b (n - j) j st)
     unfolding readOn then verdictOf
-    read-stops e l = rw (left n j (omega arith), at, numbered-no (noAt 𝒯 P b j) z st′ e, number-of z (low z e l))
+    read-stops e l = rw (left n j (omega arith), at, numbered-no (noAt 𝒯 P b j) z st′ e, number-of z (answer-number z l e))
 
   -- the last
   module _ (h : j + 1 ≡ n) (es : (place : Question → Refusal) → numbered place z tt ≡ lastAsk 𝒯 P place b (decode w) st) where
@@ -109,9 +101,9 @@ module _ (𝒯 : Tables) (P : Routine) (b n j : ℕ) (st : Reading) (w : ℕ) (e
     unfolding verdictOf
     read-ends e = rw (whole, numbered-ok (noAt 𝒯 P b j) z (tt {0}) e)
 
-    pub read-refuses : (z ≡ 0 → ⊥) → z ≤ 15 → verdict z b (P .start b + j) ≡ verdictOf (readOn 𝒯 P b (n - j) j st)
+    pub read-refuses : (z ≡ 0 → ⊥) → isAnswer z ≡ true → verdict z b (P .start b + j) ≡ verdictOf (readOn 𝒯 P b (n - j) j st)
     unfolding verdictOf
-    read-refuses e l = rw (whole, numbered-no (noAt 𝒯 P b j) z (tt {0}) e, number-of z (low z e l))
+    read-refuses e l = rw (whole, numbered-no (noAt 𝒯 P b j) z (tt {0}) e, number-of z (answer-number z l e))
 
 -- ---- the fields at hand stay eight
 

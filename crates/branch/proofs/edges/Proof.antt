@@ -4,6 +4,8 @@ use mathlib.Core.List.{List}
 use Prim.Native.Nat.{ℕ}
 use native.Mathlib.Omega.{arith}
 use denote.Ref.{now}
+use Rattle.model.specs.Question.{q14}
+use Rattle.model.proofs.Logic.{answer-of}
 use borrow.Author.Needs.{needs}
 use native.Mathlib.Numerals.{add-one}
 use borrow.Author.Tests.{not-true, not-false}
@@ -45,7 +47,7 @@ opcode-requires c κs = search needs
 
 returns : tie.Need-returns
 returns c =
-    (λ place types code views fields since base. edges-halt _ _ _ _ _ _ ∙ edges-as (end-halt _ (omega arith)) refl _ _ _ _, omega arith)
+    (λ place types code views fields since base. edges-halt _ _ _ _ _ _ ∙ edges-as (end-halt _ (omega arith)) refl _ _ _ _, refl)
 
 a-requires : tie.Need-a-requires
 a-requires c κs = search needs
@@ -115,7 +117,7 @@ returns-4 c =
       λ place types code views fields since base.
           jump-no _ _ _ _ _ _ _ _ (e .edge .ensures types) (not-true _ (c .if4 .taken))
           ∙ edges-as (end-jump _ _ (c-is (read j)) (jumps j)) refl _ _ _ _,
-      omega arith,
+      answer-of _ q14 refl,
     )
 
 returns-5 : tie.Need-returns-5
@@ -125,7 +127,7 @@ returns-5 c =
       λ place types code views fields since base.
           jump-yes _ _ _ _ _ _ _ _ (e .edge .ensures types) (not-false _ (c .if4 .left))
           ∙ edges-as (end-jump _ _ (c-is (read j)) (jumps j)) refl _ _ _ _,
-      omega arith,
+      refl,
     )
 
 pub edges-spec : {M : Type 1} → statement M

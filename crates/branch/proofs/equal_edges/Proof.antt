@@ -1,5 +1,8 @@
 -- `branch::equal_edges` meets its contract.
+use mathlib.Core.Path.{refl}
 use native.Mathlib.Omega.{arith}
+use Rattle.model.specs.Question.{q14, q15}
+use Rattle.model.proofs.Logic.{answer-of}
 use borrow.Author.Needs.{needs}
 use borrow.Author.Tests.{not-true, not-false}
 use Rattle.branch.proofs.Ends.{equal-forks, equal-told, equal-past, fork-taken, fork-untaken, fork-both}
@@ -34,7 +37,7 @@ returns c =
       λ place types code views fields since base.
           fork-taken _ _ _ _ _ _ _ _ (equal-forks _ _ _ _ _ _ _ _ _) _ (equal-told _ _ _ _ _ _ _ _ _ _ _ _ (e .before .wide .ensures .0)) _
           (e .edge .ensures types) (not-true _ (c .if1 .taken)),
-      omega arith,
+      answer-of _ q14 refl,
     )
 
 not-zero-requires : tie.Need-not-zero-requires
@@ -63,7 +66,7 @@ returns-2 c =
           (e .edge .ensures types) (not-false _ (l .if1 .left)) _
           (equal-past _ _ _ _ _ _ _ _ _ _ _ _ _ (i .index .ensures .0) (i .before .not-zero .ensures _ _)) _ (h .edge2 .ensures types)
           (not-true _ (c .if2 .taken)),
-      omega arith,
+      answer-of _ q15 refl,
     )
 
 returns-3 : tie.Need-returns-3
@@ -77,7 +80,7 @@ returns-3 c =
           (e .edge .ensures types) (not-false _ (l .if1 .left)) _
           (equal-past _ _ _ _ _ _ _ _ _ _ _ _ _ (i .index .ensures .0) (i .before .not-zero .ensures _ _)) _ (h .edge2 .ensures types)
           (not-false _ (c .if2 .left)),
-      omega arith,
+      refl,
     )
 
 pub equal-edges-spec : {M : Type 1} → statement M

@@ -1,10 +1,12 @@
 -- `branch::last` meets its contract: Q7 to Q9, Q13, then the edges.
-use mathlib.Core.Path.{_∙_}
+use mathlib.Core.Path.{refl, _∙_}
 use native.Mathlib.Omega.{arith}
+use Rattle.model.specs.Question.{q13}
+use Rattle.model.proofs.Logic.{answer-of}
 use borrow.Author.Needs.{needs}
 use Rattle.table.proofs.Laws.{routine-count}
 use Rattle.instruction.proofs.Forms.{registers, known}
-use Rattle.straight.proofs.Forms.{form-bound}
+use Rattle.straight.proofs.Forms.{form-answers}
 use Rattle.branch.proofs.Ends.{decode-end, last-form, last-targets, last-no, targets-of, last-open, last-on}
 use Rattle.branch.proofs.last.Statement.{statement}
 use Rattle.branch.proofs.last.Tie as tie
@@ -24,7 +26,7 @@ form-requires c κs = search needs
 returns : tie.Need-returns
 returns c =
     let f = c .before .form in
-    (λ place types code views fields since. last-no _ _ _ _ _ (c .if1 .taken) _ _ _ (routine-count _ code) (f .ensures), form-bound _ _ _ _ _ (f .ensures))
+    (λ place types code views fields since. last-no _ _ _ _ _ (c .if1 .taken) _ _ _ (routine-count _ code) (f .ensures), form-answers _ _ _ _ _ (f .ensures))
 
 returns-2 : tie.Need-returns-2
 returns-2 c =
@@ -32,7 +34,7 @@ returns-2 c =
     let f = last-form _ _ _ _ (e .before .form .ensures) (e .if1 .left) in
     let t = last-targets _ _ _ _ (e .before .form .ensures) (e .if1 .left) in (
       λ place types code views fields since. last-open _ _ _ _ _ _ (decode-end _ (f .0) (f .1)) (targets-of _ code _ _ t) (omega arith),
-      omega arith,
+      answer-of _ q13 refl,
     )
 
 edges-requires : tie.Need-edges-requires

@@ -1,5 +1,8 @@
 -- `branch::less_edges` meets its contract.
+use mathlib.Core.Path.{refl}
 use native.Mathlib.Omega.{arith}
+use Rattle.model.specs.Question.{q14, q15}
+use Rattle.model.proofs.Logic.{answer-of}
 use borrow.Author.Needs.{needs}
 use borrow.Author.Tests.{not-true, not-false}
 use Rattle.branch.proofs.Ends.{less-forks, less-told, less-past, fork-taken, fork-untaken, fork-both}
@@ -54,7 +57,7 @@ returns c =
           fork-taken _ _ _ _ _ _ _ _ (less-forks _ _ _ _ _ _ _ _ _) _
           (less-told _ _ _ _ _ _ _ _ _ _ _ _ _ (wide i .wide .ensures .0) (i .index .ensures .0) _ (below i .below .ensures)) _
           (e .edge .ensures types) (not-true _ (c .if1 .taken)),
-      omega arith,
+      answer-of _ q14 refl,
     )
 
 mul-words-2 : tie.Need-mul-words-2
@@ -78,7 +81,7 @@ returns-2 c =
           (e .edge .ensures types) (not-false _ (l .if1 .left)) _
           (less-past _ _ _ _ _ _ _ _ _ _ _ _ _ (wide i .wide .ensures .0) (i .index .ensures .0) _ _ (i .before .not-below .ensures)) _
           (h .edge2 .ensures types) (not-true _ (c .if2 .taken)),
-      omega arith,
+      answer-of _ q15 refl,
     )
 
 returns-3 : tie.Need-returns-3
@@ -93,7 +96,7 @@ returns-3 c =
           (e .edge .ensures types) (not-false _ (l .if1 .left)) _
           (less-past _ _ _ _ _ _ _ _ _ _ _ _ _ (wide i .wide .ensures .0) (i .index .ensures .0) _ _ (i .before .not-below .ensures)) _
           (h .edge2 .ensures types) (not-false _ (c .if2 .left)),
-      omega arith,
+      refl,
     )
 
 pub less-edges-spec : {M : Type 1} → statement M

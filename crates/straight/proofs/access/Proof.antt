@@ -1,6 +1,8 @@
 -- `straight::access` meets its contract.
 use mathlib.Core.Path.{sym, _∙_}
 use native.Mathlib.Omega.{arith}
+use Rattle.model.specs.Question.{q10}
+use Rattle.model.proofs.Logic.{answer-of}
 use borrow.Author.Needs.{needs}
 use Rattle.straight.proofs.Steps.{Parts, number-of, access-nothing, access-on}
 use Rattle.straight.proofs.access.Statement.{statement}
@@ -52,7 +54,7 @@ returns c =
     let w = read r in
     let n = number-of (c .refused .ensures) in (
       λ place. access-nothing (parts w) (start w .pre .0) _ _ _ _ (sym (c .before .enum-told .given .1) ∙ r .reference .ensures _) _ n _,
-      omega arith,
+      answer-of _ q10 n,
     )
 
 opcode-requires : tie.Need-opcode-requires

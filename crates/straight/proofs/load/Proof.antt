@@ -1,6 +1,8 @@
 -- `straight::load` meets its contract.
 use mathlib.Core.Path.{sym, _∙_}
 use native.Mathlib.Omega.{arith}
+use Rattle.model.specs.Question.{q12}
+use Rattle.model.proofs.Logic.{answer-none, answer-of}
 use borrow.Author.Needs.{needs}
 use Rattle.straight.proofs.Steps.{number-of, load-own, load-other}
 use Rattle.straight.proofs.load.Statement.{statement}
@@ -22,7 +24,7 @@ returns : tie.Need-returns
 returns c =
     let t = c .before .before in (
       λ place types tags words frames constants views. load-own _ _ _ _ _ _ (sym (t .before .may-touch .ensures) ∙ t .if1 .taken) _ (omega arith),
-      omega arith,
+      answer-none _ (t .before .before .pre .2),
     )
 
 refused-requires : tie.Need-refused-requires
@@ -33,7 +35,7 @@ returns-2 c =
     let e = c .before in
     let n = number-of (c .refused .ensures) in (
       λ place types tags words frames constants views. load-other _ _ _ _ _ _ (sym (e .before .may-touch .ensures) ∙ e .if1 .left) _ n _,
-      omega arith,
+      answer-of _ q12 n,
     )
 
 pub load-spec : {M : Type 1} → statement M

@@ -2,6 +2,7 @@
 use mathlib.Core.Path.{_≡_}
 use native.Mathlib.Omega.{arith}
 use denote.Ref.{now}
+use Rattle.model.proofs.Logic.{answer-none}
 use borrow.Author.Needs.{needs}
 use Rattle.fits.proofs.Numbers.{frames-at}
 use Rattle.straight.proofs.Steps.{Parts, fresh-is, step-copy, step-constant, step-move, step-arithmetic}
@@ -63,7 +64,7 @@ returns-2 c =
       λ place.
           step-constant (parts k) _ _ _ _ _ (goes-on k) _ (omega arith)
           (fresh-is _ _ _ _ _ _ _ _ _ _ _ _ _ _ _ _ _ (c .fresh .ensures)),
-      omega arith,
+      answer-none _ (goes-on k),
     )
 
 element-copy-out-registers : tie.Need-element-copy-out-registers
@@ -73,7 +74,7 @@ element-write-registers : tie.Need-element-write-registers
 element-write-registers c = search needs
 
 returns-3 : tie.Need-returns-3
-returns-3 c = let k = c .before .before .before in (λ place. step-copy (parts k) _ _ _ _ _ (goes-on k) (omega arith), omega arith)
+returns-3 c = let k = c .before .before .before in (λ place. step-copy (parts k) _ _ _ _ _ (goes-on k) (omega arith), answer-none _ (goes-on k))
 
 fresh-requires-2 : tie.Need-fresh-requires-2
 fresh-requires-2 c κs = search needs
@@ -84,7 +85,7 @@ returns-4 c =
       λ place.
           step-arithmetic (parts k) _ _ _ _ _ (goes-on k) _ (omega arith) (omega arith)
           (fresh-is _ _ _ _ _ _ _ _ _ _ _ _ _ _ _ _ _ (c .fresh2 .ensures)),
-      omega arith,
+      answer-none _ (goes-on k),
     )
 
 element-copy-out-index : tie.Need-element-copy-out-index
@@ -116,7 +117,7 @@ returns-5 c =
       λ place.
           step-move (parts k) _ _ _ _ _ (goes-on k) _ (omega arith) _ _ _ (i .index .ensures .0) (m .moved-word .ensures _)
           (frames-at (now (start (opcode k) .args .frames)) _) (fresh-is _ _ _ _ _ _ _ _ _ _ _ _ _ _ _ _ _ (c .fresh3 .ensures)),
-      omega (arith, goes-on k),
+      answer-none _ (goes-on k),
     )
 
 pub step-spec : {M : Type 1} → statement M

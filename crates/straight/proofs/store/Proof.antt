@@ -1,5 +1,5 @@
 -- `straight::store` meets its contract.
-use mathlib.Core.Path.{_≡_}
+use mathlib.Core.Path.{refl, _≡_}
 use mathlib.Core.Bool.{true, not}
 use Prim.Native.Nat.{ℕ, _*_, _+_, _≤_}
 use native.Mathlib.Omega.{arith}
@@ -7,8 +7,8 @@ use denote.Ref.{now}
 use lib.Dec.{ltb, eqb}
 use lib.ListN.{length}
 use borrow.Author.Needs.{needs}
-use Rattle.model.specs.Question.{_or_}
-use Rattle.model.proofs.Logic.{told-no, told-yes}
+use Rattle.model.specs.Question.{_or_, q12}
+use Rattle.model.proofs.Logic.{told-no, told-yes, answer-of}
 use Rattle.straight.proofs.Steps.{number-of, store-other, store-closes, store-holds, part-is, part-length, row-words}
 use Rattle.straight.proofs.store.Statement.{statement}
 use Rattle.straight.proofs.store.Tie as tie
@@ -43,7 +43,7 @@ returns c =
     let t = c .before in
     let n = number-of (c .refused .ensures) in (
       λ place registers views. store-other _ _ _ _ _ _ _ _ (told-no (t .before .may-touch .ensures) (t .if1 .taken)) _ n _,
-      omega arith,
+      answer-of _ q12 n,
     )
 
 cast-row : tie.Need-cast-row
@@ -74,7 +74,7 @@ returns-2 c =
       λ place registers views.
           store-closes _ _ _ _ _ _ _ _ _ _ _ _ _ _ _ _ _ (may-touch r) _ _ (start r .pre .0) (part-is _ _ _ (r .row .ensures))
           (p .put .ensures .1 _) _ (p .put .ensures .0) (c .if2 .taken),
-      omega arith,
+      refl,
     )
 
 cast-base : tie.Need-cast-base
@@ -88,7 +88,7 @@ returns-3 c =
       λ place registers views.
           store-holds _ _ _ _ _ _ _ _ _ _ _ _ _ _ _ _ _ (may-touch r) _ _ (start r .pre .0) (part-is _ _ _ (r .row .ensures))
           (p .put .ensures .1 _) _ (p .put .ensures .0) (e .if2 .left),
-      omega arith,
+      refl,
     )
 
 pub store-spec : {M : Type 1} → statement M

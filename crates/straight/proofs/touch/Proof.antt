@@ -5,6 +5,8 @@ use Prim.Native.Nat.{ℕ, _*_, _+_, _≤_, _<_}
 use native.Mathlib.Omega.{arith}
 use denote.Ref.{now}
 use lib.ListN.{length}
+use Rattle.model.specs.Question.{q11}
+use Rattle.model.proofs.Logic.{answer-of}
 use borrow.Author.Needs.{needs}
 use Rattle.model.specs.Table.{tablesOf, headOf}
 use Rattle.table.proofs.Laws.{tables-size}
@@ -61,7 +63,7 @@ returns : tie.Need-returns
 returns c =
     let s = c .before .before .before in
     let n = number-of (c .refused .ensures) in
-    (λ place. touch-offset _ _ _ _ _ _ _ _ _ _ (size-is s _) (omega arith) _ n _, omega arith)
+    (λ place. touch-offset _ _ _ _ _ _ _ _ _ _ (size-is s _) (omega arith) _ n _, answer-of _ q11 n)
 
 look-requires : tie.Need-look-requires
 look-requires c κs = omega (arith, known (c .before .before .before .before .before))
