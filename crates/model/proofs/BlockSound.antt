@@ -14,9 +14,12 @@ use Rattle.model.specs.Question.{pick, q7, q8, q9, q13, Outcome, ok, ref
 use Rattle.model.specs.Word.{sum}
 use Rattle.model.specs.Table.{Tables, Routine}
 use Rattle.model.specs.Meaning.{Allocation}
-use Rattle.model.specs.Machine.{Plain, load, store, End, Instruction, plain, end, malformed, instructionAt, reg, effect, addressed, registersAfter, memoryAfter, Next, stop, enter, next, targetsExist, State, Step, goes, halts, need, after, atHalt, entering, leave, perform, step, indexOf}
+use Rattle.model.specs.Machine.{Plain, load, store, End, Instruction, plain, end, malformed, instructionAt, reg, effect, addressed}
+use Rattle.model.specs.Machine.{registersAfter, memoryAfter, Next, stop, enter, next, targetsExist, State, Step, goes, halts, need, after}
+use Rattle.model.specs.Machine.{atHalt, entering, leave, perform, step, indexOf}
 use Rattle.model.specs.Reading.{Reading, entry, isOpen}
-use Rattle.model.specs.Check.{valueIn, onRecord, readPlain, readEdges, readInstruction, readAt, readOn, blockAsk, readingAt, referenceAfter, given, lastAt, noAt}
+use Rattle.model.specs.Check.{valueIn, onRecord, readPlain, readEdges, readInstruction, readAt, readOn, blockAsk, readingAt, referenceAfter}
+use Rattle.model.specs.Check.{given, lastAt, noAt}
 use Rattle.model.proofs.Logic.{byTest, byEqual, ask-ok, then-ok, passed-then, ok-then, ok-same, not-ok, not-true}
 use Rattle.model.proofs.Inversion.{OnRecord, record-ok}
 use Rattle.model.proofs.Tidy.{Tidy, plain-tidy, entry-tidy}

@@ -16,7 +16,8 @@ use Rattle.model.specs.Types.{Dep, name, con, Ty, any, ref, maybe, tagge
 use Rattle.model.specs.Table.{Tables, Routine}
 use Rattle.model.specs.Meaning.{Allocation, RunOf, RecordMeets, RegistersMeet}
 use Rattle.model.specs.Machine.{End, halt, jump, ifEqual, ifLess, reg, Next, stop, enter, next, targetsExist}
-use Rattle.model.specs.Reading.{Values, birthplace, typed, knownEqual, rowFits, Reading, laidAt, zeros, upFrom, entry, isOpen, withKind, learned, rekinded, notZero, below, notBelow, taken, untaken}
+use Rattle.model.specs.Reading.{Values, birthplace, typed, knownEqual, rowFits, Reading, laidAt, zeros, upFrom, entry, isOpen, withKind}
+use Rattle.model.specs.Reading.{learned, rekinded, notZero, below, notBelow, taken, untaken}
 use Rattle.model.specs.Check.{valueIn, edgeMeets, readEdges}
 use Rattle.model.proofs.Logic.{byTest, byEqual, byLess, either, and-true, ask-ok}
 use Rattle.model.proofs.Lists.{set-every, getD-map, getD-past, length-laid, laid-above, laid-at, zeros-at, length-zeros, upFrom-at, length-upFrom}

@@ -11,7 +11,8 @@ use Rattle.model.specs.Question.{Refusal, refusing, Outcome, ok, refused
 use Rattle.model.specs.Table.{Tables, tablesOf, Routine, routineOf, typeLengthsAsk, codeLengthsAsk, typesAsk, lengthsAsk, annotationsAsk}
 use Rattle.model.specs.Reading.{Reading, entry}
 use Rattle.model.specs.Check.{readAt, readOn, blockAsk, judge, readingAt, checkAsk, check}
-use Rattle.model.proofs.Logic.{byEqual, either, then-ok, ok-then, passed-then, then-refused, firstNo-ok, ok-firstNo, FirstNo, firstNo-refused, not-ok, ok-same, refused-same, verdict-ok, ok-verdict}
+use Rattle.model.proofs.Logic.{byEqual, either, then-ok, ok-then, passed-then, then-refused, firstNo-ok, ok-firstNo, FirstNo, firstNo-refused}
+use Rattle.model.proofs.Logic.{not-ok, ok-same, refused-same, verdict-ok, ok-verdict}
 use Rattle.model.proofs.BlockSound.{Passed, passed-block}
 
 module _ (𝒯 : Tables) (P : Routine) where

@@ -2,18 +2,12 @@
 use mathlib.Core.Path.{_≡_, refl}
 use mathlib.Core.List.{List, [], _∷_, _++_}
 use Prim.Native.Nat.{ℕ, zero, suc, _<_}
-use Rattle.model.specs.Question.{_and_, _or_, every, ask, then, firstNo, verdictOf}
-use Rattle.model.specs.Word.{product}
-use Rattle.model.specs.Types.{typeOf, rename}
-use Rattle.model.specs.Table.{rowOf, tablesOf, startOf, routineOf, typeLengthsAsk, codeLengthsAsk, countAsk, wellMade, fieldWell, fieldsAsk, tagAsk, typesAsk, blocksAsk, lengthsAsk, annotationWell, annotationAsk, annotationsAsk}
-use Rattle.model.specs.Allocation.{isAllocated, laid, rowsAsk, allocationsAsk}
-use Rattle.model.specs.Machine.{formed, byOpcode, decode, effect, addressed, registersAfter, memoryAfter, next, targetsExist, need, leave, perform, step, onward, finish, steps, runBlocks, answerOf, startAsk, memoryLengthAsk, runAsk, opened, run, Run}
-use Rattle.model.specs.Reading.{typed, constantsOf, some, sameDep, isSame, saysSame, knownEqual, tagOf, beyond, knownTag, knownZero, isRef, isMaybe, isTagged, isPresent, isSpan, fits, rowFits, firstTag, referenceOf, laidAt, zeros, upFrom, entry, born, fresh, moves, movedWord, loaded, viewed, look, stored, notZero, below, notBelow, taken, untaken}
-use Rattle.model.specs.Check.{withReference, onRecord, readPlain, readEdges, readInstruction, readOn, blockAsk, judge, checkAsk, check}
-use Rattle.model.specs.MemoryCheck.{whenTrue, unlessTrue, startsTest, runTest, rankTest, tagTest, meets, fieldAsk, recordsAsk, registerAsk, layoutAsk, memoryAsk, memoryCheck, entryAsk, entryCheck}
-use Rattle.model.specs.Turns.{ready, turned, afterCall, atStart, Task, Standing, waiting, done, World, Call, turn, checkingMemory, running}
+use Rattle.model.specs.Check.{check}
+use Rattle.model.specs.MemoryCheck.{entryCheck}
+use Rattle.model.specs.Turns.{ready, afterCall, atStart, Task, done, World, Call, turn, checkingMemory, running}
 use Rattle.model.specs.Safety.{Checked, Safe}
 use Rattle.model.specs.Cases.{plotTypes, plotTags, row, refWord, sameWord, constantByte, storeWord, jumpWord, haltWord, stageBlocks, stageCode}
+use Rattle.model.proofs.Compute.{computed}
 use Rattle.model.proofs.Safe.{demand-3}
 
 -- a plot with a raw weight at 1, one with a corrected weight at 3; raw 5, corrected 7, and a corrected record at 8 that no plot has yet
@@ -45,7 +39,7 @@ tasks zero = correction
 tasks (suc i) = ranking
 
 pub checked : Checked plotTypes plotTags allocations memory 2 tasks
-unfolding _and_ _or_ every ask then firstNo verdictOf product typeOf rename rowOf tablesOf startOf routineOf typeLengthsAsk codeLengthsAsk countAsk wellMade fieldWell fieldsAsk tagAsk typesAsk blocksAsk lengthsAsk annotationWell annotationAsk annotationsAsk isAllocated laid rowsAsk allocationsAsk formed byOpcode decode effect addressed registersAfter memoryAfter next targetsExist need leave perform step onward finish steps runBlocks answerOf startAsk memoryLengthAsk runAsk opened run typed constantsOf some sameDep isSame saysSame knownEqual tagOf beyond knownTag knownZero isRef isMaybe isTagged isPresent isSpan fits rowFits firstTag referenceOf laidAt zeros upFrom entry born fresh moves movedWord loaded viewed look stored notZero below notBelow taken untaken withReference onRecord readPlain readEdges readInstruction readOn blockAsk judge checkAsk check whenTrue unlessTrue startsTest runTest rankTest tagTest meets fieldAsk recordsAsk registerAsk layoutAsk memoryAsk memoryCheck entryAsk entryCheck turned afterCall atStart
+unfolding computed
 checked =
     record {
       memoryPassed = refl;
@@ -81,9 +75,9 @@ abbrev calls : List Call
 calls = turn 0 1 ∷ turn 1 1 ∷ turn 0 0 ∷ checkingMemory [] [] [] [] ∷ turn 0 7 ∷ turn 1 9 ∷ turn 0 3 ∷ running [] [] 0 [] 5 ∷ []
 
 pub plot-corrected : afterAll calls (atStart tasks 2 memory) .memory ≡ 0 ∷ 1 ∷ 8 ∷ 1 ∷ 7 ∷ 8600 ∷ 22 ∷ 9100 ∷ 7800 ∷ 4 ∷ []
-unfolding _and_ _or_ every ask then firstNo verdictOf product typeOf rename rowOf tablesOf startOf routineOf typeLengthsAsk codeLengthsAsk countAsk wellMade fieldWell fieldsAsk tagAsk typesAsk blocksAsk lengthsAsk annotationWell annotationAsk annotationsAsk isAllocated laid rowsAsk allocationsAsk formed byOpcode decode effect addressed registersAfter memoryAfter next targetsExist need leave perform step onward finish steps runBlocks answerOf startAsk memoryLengthAsk runAsk opened run typed constantsOf some sameDep isSame saysSame knownEqual tagOf beyond knownTag knownZero isRef isMaybe isTagged isPresent isSpan fits rowFits firstTag referenceOf laidAt zeros upFrom entry born fresh moves movedWord loaded viewed look stored notZero below notBelow taken untaken withReference onRecord readPlain readEdges readInstruction readOn blockAsk judge checkAsk check whenTrue unlessTrue startsTest runTest rankTest tagTest meets fieldAsk recordsAsk registerAsk layoutAsk memoryAsk memoryCheck entryAsk entryCheck turned afterCall atStart
+unfolding computed
 plot-corrected = refl
 
 pub both-halted : (afterAll calls (atStart tasks 2 memory) .standing 0 ≡ done) × (afterAll calls (atStart tasks 2 memory) .standing 1 ≡ done)
-unfolding _and_ _or_ every ask then firstNo verdictOf product typeOf rename rowOf tablesOf startOf routineOf typeLengthsAsk codeLengthsAsk countAsk wellMade fieldWell fieldsAsk tagAsk typesAsk blocksAsk lengthsAsk annotationWell annotationAsk annotationsAsk isAllocated laid rowsAsk allocationsAsk formed byOpcode decode effect addressed registersAfter memoryAfter next targetsExist need leave perform step onward finish steps runBlocks answerOf startAsk memoryLengthAsk runAsk opened run typed constantsOf some sameDep isSame saysSame knownEqual tagOf beyond knownTag knownZero isRef isMaybe isTagged isPresent isSpan fits rowFits firstTag referenceOf laidAt zeros upFrom entry born fresh moves movedWord loaded viewed look stored notZero below notBelow taken untaken withReference onRecord readPlain readEdges readInstruction readOn blockAsk judge checkAsk check whenTrue unlessTrue startsTest runTest rankTest tagTest meets fieldAsk recordsAsk registerAsk layoutAsk memoryAsk memoryCheck entryAsk entryCheck turned afterCall atStart
+unfolding computed
 both-halted = (refl, refl)

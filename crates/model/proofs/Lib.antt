@@ -2,6 +2,7 @@ pub mod Logic
 pub mod Lists
 pub mod Width
 pub mod Rows
+pub mod Compute
 pub mod Answers
 pub mod RulesDecide
 pub mod Inversion

@@ -11,7 +11,10 @@ use lib.ListN.{length, getD, set, length-set}
 use borrow.Author.Tests.{ltb-true, lt-ltb, eqb-true, eqb-false}
 use Rattle.model.specs.Question.{_and_, pick, Question, q7, q8, q9, q18, q22, Refusal, Outcome, ok, refused}
 use Rattle.model.specs.Table.{Routine}
-use Rattle.model.specs.Machine.{Plain, End, halt, jump, ifEqual, ifLess, Instruction, plain, end, malformed, instructionAt, Effect, put, read, write, effect, addressed, registersAfter, memoryAfter, Next, stop, enter, next, targetsExist, State, Step, goes, halts, faults, need, after, atHalt, entering, leave, indexOf, atEnd, perform, step, Passes, here, on, Ran, halted, paused, faulted, onward, finish, steps, runBlocks}
+use Rattle.model.specs.Machine.{Plain, End, halt, jump, ifEqual, ifLess, Instruction, plain, end, malformed, instructionAt, Effect, put, read}
+use Rattle.model.specs.Machine.{write, effect, addressed, registersAfter, memoryAfter, Next, stop, enter, next, targetsExist, State, Step, goes}
+use Rattle.model.specs.Machine.{halts, faults, need, after, atHalt, entering, leave, indexOf, atEnd, perform, step, Passes, here, on, Ran}
+use Rattle.model.specs.Machine.{halted, paused, faulted, onward, finish, steps, runBlocks}
 use Rattle.model.proofs.Logic.{byTest, and-true, not-true, pick-both}
 use Rattle.model.proofs.BlockSound.{Sized}
 

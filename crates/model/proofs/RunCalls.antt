@@ -11,11 +11,13 @@ use lib.ListN.{length}
 use borrow.Author.Tests.{ltb-true, lt-ltb, le-leb}
 use Rattle.model.specs.Question.{_and_, _or_, Question, numberOf, questionOf, Refusal, Outcome, ok, refused}
 use Rattle.model.specs.Table.{Routine, routineOf, codeLengthsAsk, lengthsAsk}
-use Rattle.model.specs.Machine.{State, step, halts, faults, atHalt, indexOf, Passes, here, Ran, halted, paused, faulted, runBlocks, Run, answerAt, answerOf, refusedRun, startAsk, memoryLengthAsk, runAsk, begin, opened, run}
+use Rattle.model.specs.Machine.{State, step, halts, faults, atHalt, indexOf, Passes, here, Ran, halted, paused, faulted, runBlocks, Run}
+use Rattle.model.specs.Machine.{answerAt, answerOf, refusedRun, startAsk, memoryLengthAsk, runAsk, begin, opened, run}
 use Rattle.model.proofs.Logic.{byTest, no-number, true-and, ask-ok, ok-ask, passed-then, ok-then, not-ok}
 use Rattle.model.proofs.BlockSound.{Sized}
 use Rattle.model.proofs.TableLaws.{sized, memory-length}
-use Rattle.model.proofs.MachineLaws.{OfCode, of-7, of-8, of-9, of-18, of-22, fault-asks, Placed, placed, index-below, Last, pausing, halting, faulting, blocks-last, halt-stays, resume, blocks-plus, later, laterRan, blocks-later}
+use Rattle.model.proofs.MachineLaws.{OfCode, of-7, of-8, of-9, of-18, of-22, fault-asks, Placed, placed, index-below, Last, pausing, halting}
+use Rattle.model.proofs.MachineLaws.{faulting, blocks-last, halt-stays, resume, blocks-plus, later, laterRan, blocks-later}
 
 -- ---- the opening questions
 

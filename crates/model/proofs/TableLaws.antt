@@ -11,7 +11,9 @@ use borrow.Author.Tests.{ltb-true, ltb-false, leb-true, le-leb, eqb-true, le-ltb
 use Rattle.model.specs.Question.{_and_, _or_, pick, every, q1, q2, q3, q4, q5, q6, q17, q19, Refusal, Outcome, ok, refused, ask, asked, then, firstNo}
 use Rattle.model.specs.Word.{kindOf, recordOf, firstOf, secondOf}
 use Rattle.model.specs.Types.{Dep, name, con, Ty, depOf, ofKind, typeOf}
-use Rattle.model.specs.Table.{rowOf, wordsOf, Tables, tablesOf, fieldOf, Routine, startOf, routineOf, usesRecord, usesFirst, usesSecond, dependency, wellMade, countAsk, fieldWell, fieldsAsk, tagAsk, typesAsk, blocksAsk, lengthsAsk, annotationWell, annotationAsk, annotationsAsk}
+use Rattle.model.specs.Table.{rowOf, wordsOf, Tables, tablesOf, fieldOf, Routine, startOf, routineOf, usesRecord, usesFirst, usesSecond}
+use Rattle.model.specs.Table.{dependency, wellMade, countAsk, fieldWell, fieldsAsk, tagAsk, typesAsk, blocksAsk, lengthsAsk, annotationWell}
+use Rattle.model.specs.Table.{annotationAsk, annotationsAsk}
 use Rattle.model.specs.Meaning.{Allocation}
 use Rattle.model.specs.Allocation.{isAllocated, Allocated, laid, rowsAsk, allocationsAsk}
 use Rattle.model.specs.Machine.{memoryLengthAsk}

@@ -7,10 +7,13 @@ use lib.ListN.{length, getD}
 use Rattle.model.specs.declared.Verdict.{Verdict}
 use Rattle.model.specs.declared.Reference.{Reference}
 use Rattle.model.specs.declared.Reference.the-variants.{To, Nothing}
-use Rattle.model.specs.Question.{_or_, Question, q7, q8, q9, q10, q11, q12, q13, q14, q15, Refusal, refusal, Outcome, ok, refused, ask, asked, then, firstNo, verdictOf}
+use Rattle.model.specs.Question.{_or_, Question, q7, q8, q9, q10, q11, q12, q13, q14, q15, Refusal, refusal, Outcome, ok, refused, ask, asked}
+use Rattle.model.specs.Question.{then, firstNo, verdictOf}
 use Rattle.model.specs.Table.{Tables, tablesOf, Routine, routineOf, typeLengthsAsk, codeLengthsAsk, typesAsk, lengthsAsk, annotationsAsk}
-use Rattle.model.specs.Machine.{Plain, constant, copy, add, subtract, multiply, divide, move, load, store, End, halt, jump, ifEqual, ifLess, Instruction, plain, end, malformed, instructionAt, targetsExist}
-use Rattle.model.specs.Reading.{Values, typed, birthplace, rowFits, referenceOf, Reading, entry, putRegister, fresh, movedWord, isOpen, look, loaded, stored, taken, untaken}
+use Rattle.model.specs.Machine.{Plain, constant, copy, add, subtract, multiply, divide, move, load, store, End, halt, jump, ifEqual, ifLess}
+use Rattle.model.specs.Machine.{Instruction, plain, end, malformed, instructionAt, targetsExist}
+use Rattle.model.specs.Reading.{Values, typed, birthplace, rowFits, referenceOf, Reading, entry, putRegister, fresh, movedWord, isOpen, look}
+use Rattle.model.specs.Reading.{loaded, stored, taken, untaken}
 
 -- the value in a register
 abbrev pub valueIn : Reading → ℕ → ℕ

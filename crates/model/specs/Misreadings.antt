@@ -6,7 +6,8 @@ use Prim.Native.Nat.{ℕ, _^_}
 use Rattle.model.specs.Machine.{ifLess, next, enter, Run, run}
 use Rattle.model.specs.Check.{check}
 use Rattle.model.specs.MemoryCheck.{memoryCheck}
-use Rattle.model.specs.Cases.{typeWord, constantByte, refWord, taggedWord, sameWord, runWord, inWord, instruction, haltWord, moveWord, loadWord, storeWord, jumpWord, ifEqualWord, ifLessWord, row, verdict, plotTypes, plotTags}
+use Rattle.model.specs.Cases.{typeWord, constantByte, refWord, taggedWord, sameWord, runWord, inWord, instruction, haltWord, moveWord, loadWord}
+use Rattle.model.specs.Cases.{storeWord, jumpWord, ifEqualWord, ifLessWord, row, verdict, plotTypes, plotTags}
 
 -- Blocks 1 to 3 of most cases: r3 is taken for a reference to a raw record where it is Tagged of tag 0 and not 0, and its second
 -- field is loaded, which a corrected record does not have.
