@@ -2,8 +2,9 @@
  *
  * A table is a pointer to 32-bit words and their number; a pointer may be null where the number is 0. Tables are read only,
  * and no call keeps a pointer. The words behind different pointers must not overlap where one of them is written (memory,
- * registers, place, answer). Nothing else is asked of a caller: any lengths and any words are allowed, every call returns,
- * and no call has state, so calls on different memory may run at the same time.
+ * registers, place, answer). A call needs the stack named below, the caller's own frames beside it. Nothing else is asked of a
+ * caller: any lengths and any words are allowed, every call returns, and no call has state, so calls on different memory may run
+ * at the same time.
  *
  * Each call returns the number of the first question with a no, and 0 where there is none; docs/REFUSALS.md has the numbers.
  * What each call promises is proved of the code behind it: the answer is the one that the definitions in crates/model/specs
@@ -12,7 +13,7 @@
  * Together they promise this. Let memory, every routine and every routine's start block and registers have passed their checks
  * over the same types, tags and allocations. Then run the routines in any turns with any budgets, each from its start or from what
  * its own last turn returned, while nobody else writes memory. Every turn returns 0 or 40, touches only fields of allocated
- * records, and leaves all records and registers in type after every block.
+ * records, and leaves all records and registers in type after every block; every word of memory outside the records stays as it was.
  */
 #ifndef RAMDULSI_H
 #define RAMDULSI_H
@@ -23,6 +24,12 @@
 #ifdef __cplusplus
 extern "C" {
 #endif
+
+/* Bytes of stack that a thread needs for ramdulsi_check and ramdulsi_run, and for ramdulsi_memory_check and ramdulsi_entry_check, which keep a
+ * table of 64 KiB there.
+ */
+#define RAMDULSI_STACK 16384u
+#define RAMDULSI_STACK_CHECKING_MEMORY 81920u
 
 /* Whether a routine is accepted.
  *   types   1 to 64 rows of 9 words: field count, then 8 type words

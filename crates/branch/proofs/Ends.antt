@@ -1,108 +1,110 @@
--- Laws of a block's end: Q7 to Q9, what an edge tells, Q13 to Q15.
+-- Laws of a block's end: Q7 to Q9 and Q13, what an edge tells, Q14 and Q15.
 use mathlib.Core.Path.{_≡_, refl, sym, ap, _∙_}
-use mathlib.Core.Bool.{Bool, true, false}
+use mathlib.Core.Bool.{Bool, true, false, false≢true}
 use mathlib.Core.List.{List, [], _∷_}
-use Prim.Native.Nat.{ℕ, zero, suc, _+_, _*_, _/_, _%_, _<_, _≤_}
+use Prim.Native.Nat.{ℕ, zero, suc, _+_, _/_, _<_, _≤_}
 use native.Mathlib.Numerals.{add-one}
 use native.Mathlib.Omega.{arith}
 use lib.Dec.{ltb, eqb}
-use lib.ListN.{length, getD, set}
-use borrow.Author.Tests.{lt-ltb, le-ltb, eq-eqb, ne-eqb, ltb-true}
-use Rattle.model.specs.Question.{_and_, pick, Question, questionOf, q14, q15, Refusal, ask, asked}
-use Rattle.model.specs.Word.{kindOf, firstOf, secondOf, opcodeOf, aOf, bOf, cOf}
+use lib.ListN.{getD, set}
+use borrow.Author.Tests.{lt-ltb, le-ltb, eq-eqb, ne-eqb, ltb-false}
+use Rattle.model.specs.Question.{_and_, pick, provided, Question, questionOf, numberOf, q7, q8, q9, q13, isAnswer, Refusal, Outcome, ok, refused, then}
+use Rattle.model.specs.Word.{kindOf, firstOf, secondOf, opcodeOf, aOf, bOf, cOf, withKind}
 use Rattle.model.specs.Types.{Dep, name, depOf, renameDep, Ty, any, ref, maybe, tagged, present, same, span}
-use Rattle.model.specs.Table.{Tables, Routine, routineOf, rows, wordsOf}
-use Rattle.model.specs.Machine.{End, halt, jump, ifEqual, ifLess, Instruction, plain, end, malformed, decode, wellFormed, targetsExist}
-use Rattle.model.specs.Reading.{Values, birthplace, typed, knownEqual, rowFits, Reading, withKind, rekinded, notZero, below, notBelow, taken, untaken}
-use Rattle.model.specs.Check.{edgeMeets, readEdges}
+use Rattle.model.specs.Table.{Tables, Routine}
+use Rattle.model.specs.Machine.{End, halt, jump, ifEqual, ifLess, Instruction, plain, end, malformed, decode, targetsExist, formAsk}
+use Rattle.model.specs.Reading.{Values, birthplace, typed, knownEqual, rowFits, Reading, rekinded, notZero, below, notBelow, taken, untaken}
+use Rattle.model.specs.Check.{readEdges, readEnd, readInstruction}
 use Rattle.model.proofs.Lists.{set-same}
-use Rattle.model.proofs.Logic.{byTest, byEqual, byLess, and-true}
-use Rattle.table.proofs.Laws.{row-inside}
-use Rattle.instruction.specs.Form.{leadsOn, formNo}
-use Rattle.instruction.proofs.Forms.{row-0, row-10, row-11, row-12, decoded, known}
-use Rattle.instruction.proofs.Laws.{form-plain-last}
+use Rattle.model.proofs.Logic.{byTest, byEqual, number-of, answer-number, answer-of, answer-none}
+use Rattle.instruction.specs.Form.{formNo, endOf, forks, Ending}
+use Rattle.instruction.proofs.Laws.{form-refuses, form-ending, form-answers, ending-word, end-halt, end-jump, end-equal, end-less}
 use Rattle.fits.specs.Numbers.{framesOf, valuesOf, depAt, siblingOf}
 use Rattle.fits.proofs.Numbers.{dep-name, byKind, type-any, type-ref, type-maybe, type-tagged, type-present, type-same, type-span}
 use Rattle.straight.specs.State.{reading, numbered}
-use Rattle.straight.proofs.Forms.{well-formed}
-use Rattle.branch.specs.End.{retyped, pastZero, nextKind, endOf, lastAsk}
+use Rattle.straight.proofs.Outcomes.{numbered-no}
+use Rattle.branch.specs.declared.EdgeFacts.{EdgeFacts}
+use Rattle.branch.specs.End.{endNo, retyped, pastZero, nextKind, takenIn, untakenIn, Tells, forkAsk, EdgeRows}
 
--- ---- Q7 to Q9
+-- ---- Q7 to Q9 and Q13
 
--- the instruction of a well-formed word
-module _ (w : ℕ) where
-  pub end-halt : opcodeOf w ≡ 0 → endOf w ≡ halt
-  unfolding endOf
-  end-halt o = rw o
+module _ (w b count base : ℕ) where
+  pub end-form : (n : ℕ) → n ≡ formNo (decode w) true b count → (n ≡ 0 → ⊥) → n ≡ endNo (decode w) b count base
+  unfolding endNo
+  end-form n e d =
+      sym (number-of n (answer-number n (form-answers (decode w) true b count n e) d))
+      ∙ form-refuses numberOf count b _ _ true (decode w) n e d
 
-  module _ (c : ℕ) (ec : c ≡ cOf w) where
-    pub end-jump : opcodeOf w ≡ 10 → endOf w ≡ jump c
-    unfolding endOf
-    end-jump o = rw (o, ← ec)
+  module _ (f : Ending b count w) where
+    pub end-open : base < 256 → 13 ≡ endNo (decode w) b count base
+    unfolding endNo provided
+    end-open h = rw (← form-ending numberOf count b (λ _. 0) _ w f, lt-ltb base 256 h)
 
-    module _ (a : ℕ) (ea : a ≡ aOf w) where
-      pub end-equal : opcodeOf w ≡ 11 → endOf w ≡ ifEqual a (c / 256) (c % 256)
-      unfolding endOf
-      end-equal o = rw (o, ← ec, ← ea)
+    pub end-shut : 256 ≤ base → 0 ≡ endNo (decode w) b count base
+    unfolding endNo provided
+    end-shut h = rw (← form-ending numberOf count b (λ _. 0) _ w f, le-ltb base 256 h)
 
-      pub end-less : (b : ℕ) → b ≡ bOf w → opcodeOf w ≡ 12 → endOf w ≡ ifLess a b c
-      unfolding endOf
-      end-less b eb o = rw (o, ← ec, ← ea, ← eb)
+-- where none of them had a no
+form-passed : (x : Instruction) (b count base : ℕ) → 0 ≡ endNo x b count base → (0 ≡ formNo x true b count) × (256 ≤ base)
+unfolding endNo formNo formAsk provided
+form-passed malformed b count base e = absurd (omega arith)
+form-passed (plain x) b count base e = absurd (omega arith)
+form-passed (end x) b count base e =
+    byTest (targetsExist count b x)
+    (λ p. byTest (ltb base 256) (λ q. let z : 0 ≡ 13 = e ∙ rw (p, q) in absurd (omega arith)) (λ q. (rw p, ltb-false base 256 q)))
+    (λ p. let z : 0 ≡ 9 = e ∙ rw p in absurd (omega arith))
 
-pub decode-end : (w : ℕ) → wellFormed w ≡ true → (0 < opcodeOf w → 9 < opcodeOf w) → decode w ≡ end (endOf w)
-decode-end w q h =
-    let k = known w q in
-    byEqual (opcodeOf w) 0 (λ o. decoded w _ (end halt) refl (row-0 w o) q ∙ ap end (sym (end-halt w o)))
-    (λ n0. byEqual (opcodeOf w) 10 (λ o. decoded w _ (end (jump (cOf w))) refl (row-10 w o) q ∙ ap end (sym (end-jump w (cOf w) refl o)))
-    (λ n10. byEqual (opcodeOf w) 11
-    (λ o. decoded w _ (end (ifEqual (aOf w) (cOf w / 256) (cOf w % 256))) refl (row-11 w o) q ∙ ap end (sym (end-equal w (cOf w) refl (aOf w) refl o)))
-    (λ n11. let l = h (omega arith) in
-    let o : opcodeOf w ≡ 12 = omega arith in
-    decoded w _ (end (ifLess (aOf w) (bOf w) (cOf w))) refl (row-12 w o) q ∙ ap end (sym (end-less w (cOf w) refl (aOf w) refl (bOf w) refl o)))))
+module _ (w b count base n : ℕ) (e : n ≡ endNo (decode w) b count base) where
+  pub end-word : n ≡ 0 → Ending b count w
+  end-word z = ending-word w b count 0 refl (form-passed (decode w) b count base (sym z ∙ e) .0)
 
-module _ (w : ℕ) (b count n : ℕ) where
-  pub last-form : n ≡ formNo (decode w) true b count → n ≡ 0 → (wellFormed w ≡ true) × (0 < opcodeOf w → 9 < opcodeOf w)
-  last-form e z =
-      let q = well-formed w b count n true e z in (
-        q,
-        λ l. byLess (opcodeOf w) 10 (λ o. absurd (omega (arith, form-plain-last w true b count q l o refl))) (λ o. omega arith),
-      )
+  answers : (x : Instruction) → n ≡ endNo x b count base → isAnswer n ≡ true
+  unfolding endNo formAsk provided
+  answers malformed e = answer-of n q7 e
+  answers (plain x) e = answer-of n q8 e
+  answers (end x) e =
+      byTest (targetsExist count b x)
+      (λ p. byTest (ltb base 256) (λ q. answer-of n q13 (e ∙ rw (p, q))) (λ q. answer-none n (e ∙ rw (p, q))))
+      (λ p. answer-of n q9 (e ∙ rw p))
 
-  pub last-targets : n ≡ formNo (decode w) true b count → n ≡ 0 → targetsExist count b (endOf w) ≡ true
-  unfolding formNo leadsOn
-  last-targets e z =
-      let (q, h) = last-form e z in
-      let f : n ≡ pick (targetsExist count b (endOf w)) 0 9 = e ∙ rw (decode-end w q h) in
-      byTest (targetsExist count b (endOf w)) (λ p. p) (λ p. absurd (nine (f ∙ rw p) z))
-    where
-      nine : n ≡ 9 → n ≡ 0 → ⊥
-      nine f z = omega arith
+  pub end-answers : isAnswer n ≡ true
+  end-answers = answers (decode w) e
 
-module _ (𝒯 : Tables) (place : Question → Refusal) (b count : ℕ) (n : ℕ) (d : n ≡ 0 → ⊥) where
-  pub last-no : (P : Routine) (i : Instruction) (st : Reading) → P .count ≡ count → n ≡ formNo i true b count
-      → numbered place n tt ≡ lastAsk 𝒯 P place b i st
-  unfolding formNo leadsOn lastAsk numbered questionOf ask
-  last-no P malformed st ep e = rw e
-  last-no P (plain x) st ep e = rw e
-  last-no P (end x) st ep e =
-      byTest (targetsExist count b x) (λ q. absurd (d (e ∙ rw q))) (λ q. rw (e, ep, q))
+-- the outcome of questions, with a result
+carried : {A : Type 0} (place : Question → Refusal) (a : A) (m : ℕ) → numbered place m a ≡ then (numbered place m (tt {0})) (λ _. ok a)
+unfolding numbered then
+carried place a zero = refl
+carried place a (suc m) = refl
 
--- ---- Q13
+-- Q7 to Q9 and Q13, then the edges, are the reading of the last instruction
+module _ (𝒯 : Tables) (P : Routine) (place : Question → Refusal) (b g w : ℕ) (st : Reading) (count n : ℕ) (ec : P .count ≡ count)
+    (e : n ≡ endNo (decode w) b count (st .base)) where
+  here : n ≡ endNo (decode w) b (P .count) (st .base)
+  here = rw ec e
 
-pub targets-of : (blocks code : List ℕ) (b w : ℕ) → targetsExist (rows blocks) b (endOf w) ≡ true
-    → targetsExist (routineOf blocks code .count) b (endOf w) ≡ true
-unfolding routineOf
-targets-of blocks code b w h = h
+  refuses : (x : Instruction) → n ≡ endNo x b (P .count) (st .base) → (n ≡ 0 → ⊥) → refused (place (questionOf n)) ≡ readInstruction 𝒯 P place b g true x st
+  unfolding endNo readInstruction readEnd formAsk provided questionOf
+  refuses malformed e d = rw e
+  refuses (plain x) e d = rw e
+  refuses (end x) e d =
+      byTest (targetsExist (P .count) b x)
+      (λ p. byTest (ltb (st .base) 256) (λ q. rw (e, p, q)) (λ q. absurd (d (e ∙ rw (p, q)))))
+      (λ p. rw (e, p))
 
-module _ (𝒯 : Tables) (P : Routine) (place : Question → Refusal) (b w : ℕ) (st : Reading) (e : decode w ≡ end (endOf w))
-    (h : targetsExist (P .count) b (endOf w) ≡ true) where
-  pub last-open : st .base < 256 → numbered place 13 tt ≡ lastAsk 𝒯 P place b (decode w) st
-  unfolding lastAsk numbered questionOf ask
-  last-open l = rw (e, h, lt-ltb (st .base) 256 l)
+  pub end-refuses : (n ≡ 0 → ⊥) → numbered place n st ≡ readInstruction 𝒯 P place b g true (decode w) st
+  end-refuses d = numbered-no place n st d ∙ refuses (decode w) here d
 
-  pub last-on : 256 ≤ st .base → readEdges 𝒯 P place (suc b) (endOf w) st ≡ lastAsk 𝒯 P place b (decode w) st
-  unfolding lastAsk ask
-  last-on l = rw (e, h, le-ltb (st .base) 256 l)
+  pub end-reads : n ≡ 0 → (m : ℕ) → numbered place m tt ≡ readEdges 𝒯 P place (suc b) (endOf w) st
+      → numbered place m st ≡ readInstruction 𝒯 P place b g true (decode w) st
+  unfolding readInstruction readEnd provided
+  end-reads z m em =
+      let shut = form-passed (decode w) b (P .count) (st .base) (sym z ∙ here) .1 in
+      let ends = end-word w b (P .count) (st .base) n here z in
+      rw (
+        ← form-ending {A = Outcome Reading} (λ (q : Question). refused (place q)) (P .count) b _ (λ x. readEnd 𝒯 P place b x st) w ends,
+        le-ltb (st .base) 256 shut,
+        ← em,
+      ) (carried place st m)
 
 -- ---- what an edge tells
 
@@ -212,105 +214,93 @@ module _ (words frames constants : List ℕ) (v : ℕ) where
 
 -- ---- Q14 and Q15
 
-pub row-same : (𝒯 : Tables) (vs : Values) (n : ℕ) (row row′ values : List ℕ) → row ≡ row′ → rowFits 𝒯 vs n row values ≡ rowFits 𝒯 vs n row′ values
-row-same 𝒯 vs n row row′ values e = rw e
-
--- the same edges, told otherwise
-pub edges-as : {x y : End} {n next : ℕ} → y ≡ x → n ≡ next → (𝒯 : Tables) (P : Routine) (place : Question → Refusal) (st : Reading)
-    → readEdges 𝒯 P place n x st ≡ readEdges 𝒯 P place next y st
-edges-as e en 𝒯 P place st = rw (e, en)
-
-module _ (𝒯 : Tables) (blocks code : List ℕ) (place : Question → Refusal) (next : ℕ) (st : Reading) where
-  abbrev P : Routine
-  P = routineOf blocks code
-
-  pub edges-halt : numbered place 0 tt ≡ readEdges 𝒯 P place next halt st
+module _ (𝒯 : Tables) (P : Routine) (place : Question → Refusal) (b w : ℕ) (st : Reading) where
+  pub edges-halt : opcodeOf w ≡ 0 → numbered place 0 tt ≡ readEdges 𝒯 P place (suc b) (endOf w) st
   unfolding readEdges numbered
-  edges-halt = refl
+  edges-halt o = rw (end-halt w o)
 
-  module _ (t : ℕ) (f : Bool) (ef : f ≡ rowFits 𝒯 (st .values) 8 (wordsOf blocks t) (st .registers)) where
-    pub jump-no : f ≡ false → numbered place 14 tt ≡ readEdges 𝒯 P place next (jump t) st
-    unfolding readEdges numbered questionOf ask taken routineOf
-    jump-no q = rw (← ef, q)
+  module _ (o : opcodeOf w ≡ 10) (row row′ : List ℕ) (l : EdgeRows P b (endOf w) row row′) (f : Bool)
+      (ef : f ≡ rowFits 𝒯 (st .values) 8 row (st .registers)) where
+    row-is : P .annotation (cOf w) ≡ row
+    row-is = rw (end-jump w o) at (l .target)
 
-    pub jump-yes : f ≡ true → numbered place 0 tt ≡ readEdges 𝒯 P place next (jump t) st
-    unfolding readEdges numbered ask taken routineOf
-    jump-yes q = rw (← ef, q)
+    pub jump-no : f ≡ false → numbered place 14 tt ≡ readEdges 𝒯 P place (suc b) (endOf w) st
+    unfolding readEdges numbered questionOf provided taken
+    jump-no q = rw (end-jump w o, row-is, ← ef, q)
 
-  -- an end that forks
-  abbrev Forks : End → ℕ → Type 0
-  Forks e t =
-      readEdges 𝒯 P place next e st
-      ≡ ask (edgeMeets 𝒯 P st (taken e st) t) (place q14) λ _.
-      asked (edgeMeets 𝒯 P st (untaken e st) next) (place q15)
+    pub jump-yes : f ≡ true → numbered place 0 tt ≡ readEdges 𝒯 P place (suc b) (endOf w) st
+    unfolding readEdges numbered provided taken
+    jump-yes q = rw (end-jump w o, row-is, ← ef, q)
 
-  pub equal-forks : (a k t : ℕ) → Forks (ifEqual a k t) t
-  unfolding readEdges
-  equal-forks a k t = refl
+-- a branch asks both
+forks-ask : (𝒯 : Tables) (P : Routine) (place : Question → Refusal) (b : ℕ) (e : End) (takenRow untakenRow : List ℕ) (st : Reading)
+    → EdgeRows P b e takenRow untakenRow → forks e ≡ true
+    → forkAsk 𝒯 place (st .registers) (taken e st) takenRow (untaken e st) untakenRow ≡ readEdges 𝒯 P place (suc b) e st
+unfolding forkAsk readEdges
+forks-ask 𝒯 P place b halt t u st l f = absurd (false≢true f)
+forks-ask 𝒯 P place b (jump k) t u st l f = absurd (false≢true f)
+forks-ask 𝒯 P place b (ifEqual x k c) t u st l f = rw (l .target, l .next refl)
+forks-ask 𝒯 P place b (ifLess x y c) t u st l f = rw (l .target, l .next refl)
 
-  pub less-forks : (a b t : ℕ) → Forks (ifLess a b t) t
-  unfolding readEdges
-  less-forks a b t = refl
+branches : (w : ℕ) → 10 < opcodeOf w → opcodeOf w ≤ 12 → forks (endOf w) ≡ true
+branches w l h = byEqual (opcodeOf w) 11 (λ o. rw (end-equal w o)) (λ n. let o : opcodeOf w ≡ 12 = omega arith in rw (end-less w o))
 
-  module _ (e : End) (t : ℕ) (forks : Forks e t) (vs : Values) (ev : vs ≡ taken e st) (f : Bool)
-      (ef : f ≡ rowFits 𝒯 vs 8 (wordsOf blocks t) (st .registers)) where
-    pub fork-taken : f ≡ false → numbered place 14 tt ≡ readEdges 𝒯 P place next e st
-    unfolding numbered questionOf ask routineOf
-    fork-taken q = rw (forks, ← ev, ← ef, q)
+pub fork-edges : (𝒯 : Tables) (P : Routine) (place : Question → Refusal) (b w : ℕ) (takenRow untakenRow : List ℕ) (st : Reading)
+    → EdgeRows P b (endOf w) takenRow untakenRow → 10 < opcodeOf w → opcodeOf w ≤ 12
+    → (t : EdgeFacts) (words frames constants : List ℕ) → Tells t words frames constants (endOf w) st
+    → forkAsk 𝒯 place (st .registers) (takenIn t words frames constants) takenRow (untakenIn t words frames constants) untakenRow
+    ≡ readEdges 𝒯 P place (suc b) (endOf w) st
+fork-edges 𝒯 P place b w takenRow untakenRow st l h k t words frames constants T =
+    rw (T .on-taken, T .on-untaken) (forks-ask 𝒯 P place b (endOf w) takenRow untakenRow st l (branches w h k))
 
-    module _ (q : f ≡ true) (vs′ : Values) (ev′ : vs′ ≡ untaken e st) (h : Bool)
-        (eh : h ≡ rowFits 𝒯 vs′ 8 (wordsOf blocks next) (st .registers)) where
-      pub fork-untaken : h ≡ false → numbered place 15 tt ≡ readEdges 𝒯 P place next e st
-      unfolding numbered questionOf ask routineOf
-      fork-untaken p = rw (forks, ← ev, ← ef, q, ← ev′, ← eh, p)
+-- as `fork` asks them, of words in which first the one type word is put and then the other
+module _ (𝒯 : Tables) (place : Question → Refusal) (registers words frames constants row row′ : List ℕ) (t : EdgeFacts) (i : ℕ) (ei : i ≡ t .v)
+    (f : Bool) (ef : f ≡ rowFits 𝒯 (valuesOf (set words i (t .taken)) frames constants (t .tested) (t .equal)) 8 row registers) where
+  abbrev both : Outcome (Unit {0})
+  both = forkAsk 𝒯 place registers (takenIn t words frames constants) row (untakenIn t words frames constants) row′
 
-      pub fork-both : h ≡ true → numbered place 0 tt ≡ readEdges 𝒯 P place next e st
-      unfolding numbered questionOf ask routineOf
-      fork-both p = rw (forks, ← ev, ← ef, q, ← ev′, ← eh, p)
+  pub fork-taken : f ≡ false → numbered place 14 tt ≡ both
+  unfolding forkAsk numbered questionOf provided
+  fork-taken q = rw (← ei, ← ef, q)
 
--- what the edges tell
-module _ (registers words frames constants views fields : List ℕ) (since base a t : ℕ) where
+  module _ (q : f ≡ true) (h : Bool) (eh : h ≡ rowFits 𝒯 (retyped (set words i (t .taken)) frames constants i (t .untaken)) 8 row′ registers) where
+    second : h ≡ rowFits 𝒯 (retyped words frames constants i (t .untaken)) 8 row′ registers
+    second = rw (set-again words i (t .taken) (t .untaken)) at eh
+
+    pub fork-untaken : h ≡ false → numbered place 15 tt ≡ both
+    unfolding forkAsk numbered questionOf provided
+    fork-untaken p = rw (← ei, ← ef, q, ← second, p)
+
+    pub fork-both : h ≡ true → numbered place 0 tt ≡ both
+    unfolding forkAsk numbered provided
+    fork-both p = rw (← ei, ← ef, q, ← second, p)
+
+-- ---- what the edges of a word tell
+
+module _ (registers words frames constants views fields : List ℕ) (since base w a : ℕ) (ea : a ≡ aOf w) where
   abbrev st : Reading
   st = reading registers words frames constants views fields since base
 
-  abbrev value : ℕ
-  value = getD registers a 0
+  abbrev v : ℕ
+  v = getD registers a 0
 
-  pub equal-told : (u k : ℕ) → u ≡ value → valuesOf words frames constants u (k + 1) ≡ taken (ifEqual a k t) st
-  unfolding taken
-  equal-told u k eu = rw (eu, add-one k)
+  pub equal-tells : opcodeOf w ≡ 11 → (c : ℕ) → c ≡ cOf w → (i tested past : ℕ) → i ≡ v → tested ≡ v
+      → retyped words frames constants v past ≡ pastZero (st .values) v (c / 256)
+      → Tells (record { v = v; taken = getD words i 0; untaken = past; tested = tested; equal = c / 256 + 1 }) words frames constants (endOf w) st
+  unfolding taken untaken
+  equal-tells o c ec i tested past ei et ep =
+      record {
+        on-taken = rw (end-equal w o, ← ea, ← ec, ei, set-same words v, et, add-one (c / 256));
+        on-untaken = rw (end-equal w o, ← ea, ← ec) ep;
+      }
 
-  pub equal-past : (i w k : ℕ) → i ≡ value → retyped words frames constants value w ≡ pastZero (st .values) value k
-      → retyped words frames constants i w ≡ untaken (ifEqual a k t) st
-  unfolding untaken
-  equal-past i w k ei ew = rw ei ew
-
-  module _ (b u i : ℕ) (eu : u ≡ getD registers b 0) (ei : i ≡ value) (x : ℕ) where
-    pub less-told : retyped words frames constants value x ≡ below (st .values) value u (typed (st .values) value)
-        → retyped words frames constants i x ≡ taken (ifLess a b t) st
-    unfolding taken
-    less-told ex = rw (ei, ← eu) ex
-
-    pub less-past : (y : ℕ) → retyped words frames constants value y ≡ notBelow (st .values) value u (typed (st .values) value)
-        → retyped (set words i x) frames constants i y ≡ untaken (ifLess a b t) st
-    unfolding untaken
-    less-past y ey = rw (set-again words i x y, ei, ← eu) ey
-
--- the blocks that an end leads to are rows of the table
-module _ (blocks : List ℕ) (w b : ℕ) (h : targetsExist (rows blocks) b (endOf w) ≡ true) (c : ℕ) (ec : c ≡ cOf w) where
-  pub jump-row : opcodeOf w ≡ 10 → c * 9 + 9 ≤ length blocks
-  unfolding targetsExist
-  jump-row o = row-inside (length blocks) c (ltb-true c (rows blocks) (rw (end-jump w c ec o) at h))
-
-  module _ (a : ℕ) (ea : a ≡ aOf w) where
-    pub equal-rows : opcodeOf w ≡ 11 → (c % 256 * 9 + 9 ≤ length blocks) × ((b + 1) * 9 + 9 ≤ length blocks)
-    unfolding targetsExist
-    equal-rows o =
-        let (p, q) = and-true (ltb (c % 256) (rows blocks)) (ltb (suc b) (rows blocks)) (rw (end-equal w c ec a ea o) at h) in
-        (row-inside (length blocks) (c % 256) (ltb-true _ _ p), row-inside (length blocks) (b + 1) (omega (arith, ltb-true (suc b) (rows blocks) q)))
-
-    pub less-rows : (d : ℕ) → d ≡ bOf w → opcodeOf w ≡ 12 → (c * 9 + 9 ≤ length blocks) × ((b + 1) * 9 + 9 ≤ length blocks)
-    unfolding targetsExist
-    less-rows d ed o =
-        let (p, q) = and-true (ltb c (rows blocks)) (ltb (suc b) (rows blocks)) (rw (end-less w c ec a ea d ed o) at h) in
-        (row-inside (length blocks) c (ltb-true _ _ p), row-inside (length blocks) (b + 1) (omega (arith, ltb-true (suc b) (rows blocks) q)))
+  pub less-tells : opcodeOf w ≡ 12 → (b u : ℕ) → b ≡ bOf w → u ≡ getD registers b 0 → (less past : ℕ)
+      → retyped words frames constants v less ≡ below (st .values) v u (typed (st .values) v)
+      → retyped words frames constants v past ≡ notBelow (st .values) v u (typed (st .values) v)
+      → Tells (record { v = v; taken = less; untaken = past; tested = 0; equal = 0 }) words frames constants (endOf w) st
+  unfolding taken untaken
+  less-tells o b u eb eu less past el ep =
+      record {
+        on-taken = rw (end-less w o, ← ea, ← eb, ← eu) el;
+        on-untaken = rw (end-less w o, ← ea, ← eb, ← eu) ep;
+      }

@@ -1,27 +1,41 @@
 // The last instruction of a block: Q7 to Q9 and Q13 to Q15, and what an edge tells.
 ghost use mathlib.Core.Path.{_≡_};
 ghost use mathlib.Core.List.{List};
-ghost use Prim.Native.Nat.{ℕ, suc, _+_, _*_, _≤_, _<_};
+ghost use Prim.Native.Nat.{ℕ, suc, _≤_, _<_};
 ghost use lib.ListN.{length};
 ghost use mathlib.Core.Bool.{true};
 ghost use Rattle.model.specs.Question.{Question, Refusal, isAnswer};
 ghost use Rattle.model.specs.Word.{opcodeOf, aOf, bOf};
-ghost use Rattle.model.specs.Table.{rows, wordsOf};
-ghost use Rattle.model.specs.Machine.{decode, targetsExist, ifEqual, ifLess};
-ghost use Rattle.model.specs.Reading.{typed, rowFits, below, notBelow};
+ghost use Rattle.model.specs.Table.{Routine};
+ghost use Rattle.model.specs.Machine.{decode, wellFormed};
+ghost use Rattle.model.specs.Reading.{typed, below, notBelow};
 ghost use Rattle.model.specs.Check.{readEdges};
 ghost use Rattle.instruction.specs.Rows.{opcodeRows};
+ghost use Rattle.instruction.specs.Form.{endOf};
 ghost use Rattle.fits.specs.Numbers.{valuesOf, tablesIn, valuesIn};
 ghost use Rattle.straight.specs.State.{numbered};
-ghost use Rattle.branch.specs.End.{routineIn, readingIn, retyped, pastZero, nextKind, endOf, lastAsk};
+ghost use Rattle.branch.specs.End.{readingIn, endNo, retyped, pastZero, nextKind, takenIn, untakenIn, Tells, forkAsk, EdgeRows};
+use model::limit;
+use model::number::OPEN_RECORD;
+use model::number::PASSED;
+use model::number::TAKEN_EDGE;
+use model::number::UNTAKEN_EDGE;
 use straight::NO_BASE;
 
-// Numbers of the questions asked of code.
-const OPEN_RECORD: u32 = 13;
-
-const TAKEN: u32 = 14;
-
-const UNTAKEN: u32 = 15;
+// The first no of Q7 to Q9 and Q13 at the last instruction of block b; base is that of the open record.
+pub fn may_end(rows: &[u32; 13], word: u32, b: u32, count: u32, base: u32) -> u32
+    requires { ⌜ (now rows ≡ opcodeRows) × (b < 4294967295) ⌝ }
+    ensures { λ r. ⌜ r ≡ endNo (decode word) b count base ⌝ }
+{
+    let no = instruction::form(rows, word, true, b, count);
+    if no != PASSED {
+        return no;
+    }
+    if base < NO_BASE {
+        return OPEN_RECORD;
+    }
+    PASSED
+}
 
 // ---- what an edge tells
 
@@ -88,230 +102,148 @@ fn not_below(words: &[u32; 256], frames: &[u8; 32], constants: &[u32; 32], v: u8
     next_kind(words, frames, constants, v, u, word::RUN, start)
 }
 
-// ---- edges
+// What the edges of a branch tell of v, the value that it tests: its type word on each, and on the taken one that a value equals a
+// constant, as the constant + 1.
+struct EdgeFacts {
+    v: u8,
+    taken: u32,
+    untaken: u32,
+    tested: u32,
+    equal: u32,
+}
 
-// Whether the registers meet the annotation of block t.
-fn edge(
-    tags: &[u32],
-    blocks: &[u32],
+// What the edges of a word of opcode 11 or 12 tell.
+fn learn(
     registers: &[u8; 8],
     words: &[u32; 256],
     frames: &[u8; 32],
     constants: &[u32; 32],
-    tested: u32,
-    equal: u32,
-    t: usize,
-) -> bool
-    requires { ⌜ t * 9 + 9 ≤ length (now blocks) ⌝ }
-    ensures { λ r. ⌜ ((types : List ℕ)
-        → r ≡ rowFits (tablesIn types tags) (valuesIn words frames constants tested equal)
-        8 (wordsOf (now (blocks .entry)) t) (now (registers .entry))) ⌝ }
+    word: u32,
+) -> EdgeFacts
+    requires { ⌜ (10 < opcodeOf word) × (opcodeOf word ≤ 12) × (aOf word < 8) × (bOf word < 8) ⌝ }
+    ensures { λ r. ⌜ ((views fields : List ℕ) (since base : ℕ) → Tells r (now (words .entry)) (now (frames .entry)) (now (constants .entry))
+        (endOf word) (readingIn registers words frames constants views fields since base)) ⌝ }
 {
-    let own = table::row(blocks, t);
-    fits::row_fits(
-        tags,
-        words,
-        frames,
-        constants,
-        tested,
-        equal,
-        table::TYPE_WORDS,
-        &own[1..],
-        registers,
-    )
+    let a = word::a(word);
+    let v = registers[a];
+    if word::opcode(word) == instruction::IF_EQUAL {
+        let k = word::c(word) / 256;
+        let i = word::index(v);
+        let same = words[i];
+        let past = not_zero(words, v, k);
+        let tested = word::wide(v);
+        let equal = k + 1;
+        return EdgeFacts {
+            v: v,
+            taken: same,
+            untaken: past,
+            tested: tested,
+            equal: equal,
+        };
+    }
+    let b = word::b(word);
+    let u = word::wide(registers[b]);
+    let less = below(words, frames, constants, v, u);
+    let past = not_below(words, frames, constants, v, u);
+    EdgeFacts {
+        v: v,
+        taken: less,
+        untaken: past,
+        tested: 0,
+        equal: 0,
+    }
 }
 
-// Q14 and Q15 of opcode 11 on register a with the constant k, to block t or to the next. The block ends here, so its type words
-// need not be put back.
-fn equal_edges(
+// ---- edges
+
+// Q14 and Q15 of a branch, each edge against the row of its block. The block ends here, so its type words need not be put back.
+fn fork(
     tags: &[u32],
-    blocks: &[u32],
     registers: &[u8; 8],
     words: &mut [u32; 256],
     frames: &[u8; 32],
     constants: &[u32; 32],
-    a: usize,
-    k: u32,
-    t: usize,
-    next: usize,
+    t: EdgeFacts,
+    taken: &[u32],
+    untaken: &[u32],
 ) -> u32
-    requires { ⌜ (a < 8) × (k < 256) × (t * 9 + 9 ≤ length (now blocks)) × (next * 9 + 9 ≤ length (now blocks)) ⌝ }
-    ensures { λ r. ⌜ ((place : Question → Refusal) (types code views fields : List ℕ) (since base : ℕ)
-        → numbered place r tt ≡ readEdges (tablesIn types tags) (routineIn blocks code) place next (ifEqual a k t)
-        (readingIn registers words frames constants views fields since base))
+    requires { ⌜ (8 ≤ length (now taken)) × (8 ≤ length (now untaken)) ⌝ }
+    ensures { λ r. ⌜ ((place : Question → Refusal) (types : List ℕ) → numbered place r tt ≡ forkAsk (tablesIn types tags) place (now (registers .entry))
+        (takenIn t (now (words .entry)) (now (frames .entry)) (now (constants .entry))) (now (taken .entry))
+        (untakenIn t (now (words .entry)) (now (frames .entry)) (now (constants .entry))) (now (untaken .entry)))
         × (isAnswer r ≡ true) ⌝ }
 {
-    let v = registers[a];
-    if !edge(
+    let i = word::index(t.v);
+    words[i] = t.taken;
+    if !fits::row_fits(
         tags,
-        blocks,
-        registers,
         words,
         frames,
         constants,
-        fits::wide(v),
-        k + 1,
-        t,
-    ) {
-        return TAKEN;
-    }
-    let w = not_zero(words, v, k);
-    words[fits::index(v)] = w;
-    if !edge(
-        tags,
-        blocks,
+        t.tested,
+        t.equal,
+        limit::REGISTERS,
+        taken,
         registers,
+    ) {
+        return TAKEN_EDGE;
+    }
+    words[i] = t.untaken;
+    if !fits::row_fits(
+        tags,
         words,
         frames,
         constants,
         0,
         0,
-        next,
+        limit::REGISTERS,
+        untaken,
+        registers,
     ) {
-        return UNTAKEN;
+        return UNTAKEN_EDGE;
     }
-    0
+    PASSED
 }
 
-// Q14 and Q15 of opcode 12 on registers a and b, to block t or to the next.
-fn less_edges(
+// Q14 and Q15 at a word that ends a block. taken and untaken are the annotations of the blocks that it leads to; where an edge is
+// missing, its row is of no account.
+pub fn edges(
     tags: &[u32],
-    blocks: &[u32],
-    registers: &[u8; 8],
-    words: &mut [u32; 256],
-    frames: &[u8; 32],
-    constants: &[u32; 32],
-    a: usize,
-    b: usize,
-    t: usize,
-    next: usize,
-) -> u32
-    requires { ⌜ (a < 8) × (b < 8) × (t * 9 + 9 ≤ length (now blocks)) × (next * 9 + 9 ≤ length (now blocks)) ⌝ }
-    ensures { λ r. ⌜ ((place : Question → Refusal) (types code views fields : List ℕ) (since base : ℕ)
-        → numbered place r tt ≡ readEdges (tablesIn types tags) (routineIn blocks code) place next (ifLess a b t)
-        (readingIn registers words frames constants views fields since base))
-        × (isAnswer r ≡ true) ⌝ }
-{
-    let v = registers[a];
-    let u = fits::wide(registers[b]);
-    let taken = below(words, frames, constants, v, u);
-    let untaken = not_below(words, frames, constants, v, u);
-    let i = fits::index(v);
-    words[i] = taken;
-    if !edge(tags, blocks, registers, words, frames, constants, 0, 0, t) {
-        return TAKEN;
-    }
-    words[i] = untaken;
-    if !edge(
-        tags,
-        blocks,
-        registers,
-        words,
-        frames,
-        constants,
-        0,
-        0,
-        next,
-    ) {
-        return UNTAKEN;
-    }
-    0
-}
-
-// Q14 and Q15 of the last instruction of block b.
-fn edges(
-    tags: &[u32],
-    blocks: &[u32],
     registers: &[u8; 8],
     words: &mut [u32; 256],
     frames: &[u8; 32],
     constants: &[u32; 32],
     word: u32,
-    b: usize,
+    taken: &[u32],
+    untaken: &[u32],
 ) -> u32
-    requires { ⌜ (aOf word < 8) × (bOf word < 8) × (opcodeOf word ≤ 12) × (0 < opcodeOf word → 9 < opcodeOf word) × (b < 256)
-        × (targetsExist (rows (now blocks)) b (endOf word) ≡ true) ⌝ }
-    ensures { λ r. ⌜ ((place : Question → Refusal) (types code views fields : List ℕ) (since base : ℕ)
-        → numbered place r tt ≡ readEdges (tablesIn types tags) (routineIn blocks code) place (suc b) (endOf word)
+    requires { ⌜ (wellFormed word ≡ true) × (0 < opcodeOf word → 9 < opcodeOf word) × (8 ≤ length (now taken)) × (8 ≤ length (now untaken)) ⌝ }
+    ensures { λ r. ⌜ ((P : Routine) (b : ℕ) → EdgeRows P b (endOf word) (now (taken .entry)) (now (untaken .entry))
+        → (place : Question → Refusal) (types views fields : List ℕ) (since base : ℕ)
+        → numbered place r tt ≡ readEdges (tablesIn types tags) P place (suc b) (endOf word)
         (readingIn registers words frames constants views fields since base))
         × (isAnswer r ≡ true) ⌝ }
 {
     let op = word::opcode(word);
     if op == instruction::HALT {
-        return 0;
+        return PASSED;
     }
-    let a = word::a(word);
-    let c = word::c(word);
-    if op == instruction::IF_EQUAL {
-        return equal_edges(
+    if op == instruction::JUMP {
+        if fits::row_fits(
             tags,
-            blocks,
-            registers,
             words,
             frames,
             constants,
-            a,
-            c / 256,
-            (c % 256) as usize,
-            b + 1,
-        );
-    }
-    if op == instruction::IF_LESS {
-        return less_edges(
-            tags,
-            blocks,
+            0,
+            0,
+            limit::REGISTERS,
+            taken,
             registers,
-            words,
-            frames,
-            constants,
-            a,
-            word::b(word),
-            c as usize,
-            b + 1,
-        );
+        ) {
+            return PASSED;
+        }
+        return TAKEN_EDGE;
     }
-    if !edge(
-        tags,
-        blocks,
-        registers,
-        words,
-        frames,
-        constants,
-        0,
-        0,
-        c as usize,
-    ) {
-        return TAKEN;
-    }
-    0
-}
-
-// Q7 to Q9 and Q13 to Q15 of the last instruction of block b.
-pub fn last(
-    rows: &[u32; 13],
-    tags: &[u32],
-    blocks: &[u32],
-    registers: &[u8; 8],
-    words: &mut [u32; 256],
-    frames: &[u8; 32],
-    constants: &[u32; 32],
-    base: u32,
-    word: u32,
-    b: usize,
-) -> u32
-    requires { ⌜ (now rows ≡ opcodeRows) × (b < 256) × (length (now blocks) ≤ 2304) ⌝ }
-    ensures { λ r. ⌜ ((place : Question → Refusal) (types code views fields : List ℕ) (since : ℕ)
-        → numbered place r tt ≡ lastAsk (tablesIn types tags) (routineIn blocks code) place b (decode word)
-        (readingIn registers words frames constants views fields since base))
-        × (isAnswer r ≡ true) ⌝ }
-{
-    let count = (blocks.len() / table::ROW_WORDS) as u32;
-    let no = instruction::form(rows, word, true, b as u32, count);
-    if no != 0 {
-        return no;
-    }
-    if base < NO_BASE {
-        return OPEN_RECORD;
-    }
-    edges(tags, blocks, registers, words, frames, constants, word, b)
+    let t = learn(registers, words, frames, constants, word);
+    fork(tags, registers, words, frames, constants, t, taken, untaken)
 }

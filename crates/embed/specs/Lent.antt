@@ -1,13 +1,37 @@
--- What the calls for C put into the words that the caller lends.
+-- What the calls for C leave in the words that the caller lends.
+use mathlib.Core.Path.{_≡_}
 use mathlib.Core.List.{List, _∷_, []}
 use Prim.Native.Nat.{ℕ, _/_, _%_}
+use denote.Ref.{RefT, now}
+use denote.Triple.Both.{Both}
 use Rattle.model.specs.declared.Verdict.{Verdict}
 use Rattle.model.specs.declared.RunAnswer.{RunAnswer}
+use Rattle.model.specs.Machine.{Run, returned}
+
+-- words that a call is lent, as they are at entry and at exit
+abbrev pub Lent : Type 0
+Lent = Both (RefT (List ℕ)) (RefT (List ℕ))
+
+-- the words at entry
+abbrev pub given : Lent → List ℕ
+given x = now (x .entry)
 
 -- the place of a verdict
 abbrev pub placeOf : Verdict → List ℕ
 placeOf v = v .first ∷ v .second ∷ []
 
+-- a check returns its number, and leaves its place
+abbrev pub Answers : ℕ → Lent → Verdict → Type 0
+Answers r place v = (r ≡ v .number) × (now (place .exit) ≡ placeOf v)
+
 -- block, code index, and blocks finished by low and high word
-abbrev pub answerOf : RunAnswer → List ℕ
-answerOf r = r .block ∷ r .index ∷ r .finished % 4294967296 ∷ r .finished / 4294967296 ∷ []
+abbrev pub endedAt : RunAnswer → List ℕ
+endedAt r = r .block ∷ r .index ∷ r .finished % 4294967296 ∷ r .finished / 4294967296 ∷ []
+
+-- a run returns its number, and leaves memory, registers, and where it ended
+abbrev pub Runs : ℕ → Lent → Lent → Lent → Run → Type 0
+Runs r memory registers answer a =
+    (r ≡ a .number)
+    × (now (memory .exit) ≡ a .memory)
+    × (now (registers .exit) ≡ a .registers)
+    × (now (answer .exit) ≡ endedAt (returned a))

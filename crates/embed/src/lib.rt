@@ -1,24 +1,25 @@
 // The four calls for C and Rust: a table is a pointer and a length, an answer is a number returned and words that the caller lends.
 // Each contract is the call's own, with the words that it fills.
 ghost use mathlib.Core.Path.{_≡_};
+ghost use Rattle.model.specs.Table.{codeOf};
+ghost use Rattle.model.specs.Machine.{run, ready};
 ghost use Rattle.model.specs.Check.{check};
 ghost use Rattle.model.specs.MemoryCheck.{memoryCheck, entryCheck};
-ghost use Rattle.model.specs.Machine.{run, returned};
-ghost use Rattle.embed.specs.Lent.{placeOf, answerOf};
+ghost use Rattle.embed.specs.Lent.{given, Answers, endedAt, Runs};
 use model::RunAnswer;
 use model::Verdict;
 
 // The place of a verdict in two lent words, and its number.
 fn placed(v: Verdict, place: &mut [u32; 2]) -> u32
-    ensures { λ r. ⌜ (r ≡ v .number) × (now (place .exit) ≡ placeOf v) ⌝ }
+    ensures { λ r. ⌜ Answers r place v ⌝ }
 {
     *place = [v.first, v.second];
     v.number
 }
 
 // What a run returned, beside its number and registers, in four lent words.
-fn told(r: RunAnswer, answer: &mut [u32; 4])
-    ensures { λ _. ⌜ now (answer .exit) ≡ answerOf r ⌝ }
+fn ended(r: RunAnswer, answer: &mut [u32; 4])
+    ensures { λ _. ⌜ now (answer .exit) ≡ endedAt r ⌝ }
 {
     let low = (r.finished % 4294967296) as u32;
     let high = (r.finished / 4294967296) as u32;
@@ -33,8 +34,7 @@ pub extern "C" fn ramdulsi_check(
     code: &[u32],
     place: &mut [u32; 2],
 ) -> u32
-    ensures { λ r. ⌜ (r ≡ check (now (types .entry)) (now (tags .entry)) (now (blocks .entry)) (now (code .entry)) .number)
-        × (now (place .exit) ≡ placeOf (check (now (types .entry)) (now (tags .entry)) (now (blocks .entry)) (now (code .entry)))) ⌝ }
+    ensures { λ r. ⌜ Answers r place (check (given types) (given tags) (codeOf (given blocks) (given code))) ⌝ }
 {
     let v = loader::check(types, tags, blocks, code);
     placed(v, place)
@@ -48,8 +48,7 @@ pub extern "C" fn ramdulsi_memory_check(
     memory: &[u32],
     place: &mut [u32; 2],
 ) -> u32
-    ensures { λ r. ⌜ (r ≡ memoryCheck (now (types .entry)) (now (tags .entry)) (now (allocations .entry)) (now (memory .entry)) .number)
-        × (now (place .exit) ≡ placeOf (memoryCheck (now (types .entry)) (now (tags .entry)) (now (allocations .entry)) (now (memory .entry)))) ⌝ }
+    ensures { λ r. ⌜ Answers r place (memoryCheck (given types) (given tags) (given allocations) (given memory)) ⌝ }
 {
     let v = loader::memory_check(types, tags, allocations, memory);
     placed(v, place)
@@ -68,10 +67,8 @@ pub extern "C" fn ramdulsi_entry_check(
     registers: &[u32; 8],
     place: &mut [u32; 2],
 ) -> u32
-    ensures { λ r. ⌜ (r ≡ entryCheck (now (types .entry)) (now (tags .entry)) (now (allocations .entry)) (now (memory .entry)) (now (blocks .entry))
-        (now (code .entry)) block (now (registers .entry)) .number)
-        × (now (place .exit) ≡ placeOf (entryCheck (now (types .entry)) (now (tags .entry)) (now (allocations .entry)) (now (memory .entry)) (now (blocks .entry))
-        (now (code .entry)) block (now (registers .entry)))) ⌝ }
+    ensures { λ r. ⌜ Answers r place (entryCheck (given types) (given tags) (given allocations) (given memory)
+        (codeOf (given blocks) (given code)) (ready block (given registers))) ⌝ }
 {
     let held = *registers;
     let v = loader::entry_check(types, tags, allocations, memory, blocks, code, block, held);
@@ -89,14 +86,12 @@ pub extern "C" fn ramdulsi_run(
     budget: u64,
     answer: &mut [u32; 4],
 ) -> u32
-    ensures { λ r. ⌜ (r ≡ returned (run (now (blocks .entry)) (now (code .entry)) (now (memory .entry)) block (now (registers .entry)) budget) .number)
-        × (now (memory .exit) ≡ run (now (blocks .entry)) (now (code .entry)) (now (memory .entry)) block (now (registers .entry)) budget .memory)
-        × (now (registers .exit) ≡ returned (run (now (blocks .entry)) (now (code .entry)) (now (memory .entry)) block (now (registers .entry)) budget) .registers)
-        × (now (answer .exit) ≡ answerOf (returned (run (now (blocks .entry)) (now (code .entry)) (now (memory .entry)) block (now (registers .entry)) budget))) ⌝ }
+    ensures { λ r. ⌜ Runs r memory registers answer
+        (run (codeOf (given blocks) (given code)) (given memory) (ready block (given registers)) budget) ⌝ }
 {
     let held = *registers;
     let r = loader::run(blocks, code, memory, block, held, budget);
-    told(r, answer);
+    ended(r, answer);
     let left = r.registers;
     *registers = left;
     r.number

@@ -1,5 +1,5 @@
 -- One law for each way out of a function.
-use mathlib.Core.Path.{_≡_, refl, sym, _∙_}
+use mathlib.Core.Path.{_≡_, refl, sym, ap, _∙_}
 use mathlib.Core.Logic.{_⊎_, inl, inr}
 use mathlib.Core.Bool.{Bool, true, false, false≢true}
 use mathlib.Core.List.{List, [], _++_, append-nil}
@@ -11,16 +11,16 @@ use lib.ListN.{length, getD}
 use borrow.Author.Tests.{lt-ltb, le-ltb, le-leb, lt-leb, eq-eqb, ne-eqb, eqb-true, eqb-false}
 use Rattle.model.specs.Question.{_and_, _or_, every}
 use Rattle.model.specs.Word.{kindOf, recordOf, firstOf, secondOf}
-use Rattle.model.specs.Types.{Dep, depOf, renameDep, typeOf, rename}
+use Rattle.model.specs.Types.{Dep, depOf, renameDep, typeOf, rename, Ty, any, ref, maybe, tagged, present, same, span}
+use Rattle.model.specs.Table.{Tables, tablesOf}
+use Rattle.model.specs.Reading.{Values, birthplace, typed, sameConstant, constantsOf, some, isSame, saysSame, knownEqual, tagOf, beyond, knownTag}
+use Rattle.model.specs.Reading.{knownZero, isRef, isMaybe, isTagged, isPresent, isSpan, fits, rowFits, firstTag, referenceOf, constantHeld}
 use Rattle.model.specs.declared.Reference.{Reference}
 use Rattle.model.specs.declared.Reference.the-variants.{To, Nothing}
-use Rattle.model.specs.Table.{Tables, tablesOf}
-use Rattle.model.specs.Reading.{Values, birthplace, typed, held, sameConstant, constantsOf, some, isSame, saysSame, knownEqual}
-use Rattle.model.specs.Reading.{tagOf, beyond, knownTag, knownZero, isRef, isMaybe, isTagged, isPresent, isSpan, fits, rowFits}
-use Rattle.model.specs.Reading.{firstTag, referenceOf}
 use Rattle.model.proofs.Logic.{byTest, byEqual, either, or-true, or-of-true, true-or}
 use Rattle.fits.specs.Numbers.{framesOf, valuesOf, depAt, siblingOf, namedOf, meant, testedConstant, oneConstant, sharedConstant}
-use Rattle.fits.specs.Numbers.{tagOrBeyond, byRecord, byOwnTag, tagFits, placeFits}
+use Rattle.fits.specs.Numbers.{servesAsTag, Refers, toRecord, byTag, byNothing, refers, refersOf, byRecord, byOwnTag, tagFits, placeFits}
+use Rattle.fits.specs.declared.Referred.{Referred}
 use Rattle.fits.proofs.Numbers.{some-none, some-one, some-first, some-second, or-false, held-is, one-none, one-of-none, shared-parts}
 use Rattle.fits.proofs.Numbers.{tested-nothing, tested-one, pick-same, constants-are, dep-name, dep-constant, same-numbers}
 use Rattle.fits.proofs.Numbers.{type-any, type-ref, type-maybe, type-tagged, type-present, type-same, type-span, byKind}
@@ -28,15 +28,15 @@ use Rattle.fits.proofs.Numbers.{type-any, type-ref, type-maybe, type-ta
 -- ---- known constants
 
 module _ (w : ℕ) (σ : ℕ → ℕ) where
-  pub constant-other : (kindOf w ≡ 5 → ⊥) → held 0 ≡ sameConstant (rename σ (typeOf w))
+  pub constant-other : (kindOf w ≡ 5 → ⊥) → constantHeld 0 ≡ sameConstant (rename σ (typeOf w))
   constant-other n =
       byKind (kindOf w) (λ e. rw (type-any σ w e)) (λ e. rw (type-ref σ w e)) (λ e. rw (type-maybe σ w e)) (λ e. rw (type-tagged σ w e))
       (λ e. rw (type-present σ w e)) (λ e. absurd (n e)) (λ k e. rw (type-span σ w k e))
 
-  pub constant-named : kindOf w ≡ 5 → (x : ℕ) → x ≡ firstOf w → x < 8 → held 0 ≡ sameConstant (rename σ (typeOf w))
+  pub constant-named : kindOf w ≡ 5 → (x : ℕ) → x ≡ firstOf w → x < 8 → constantHeld 0 ≡ sameConstant (rename σ (typeOf w))
   constant-named e x ex h = rw (type-same σ w e, ← ex, lt-ltb x 8 h)
 
-  pub constant-same : kindOf w ≡ 5 → (x : ℕ) → x ≡ firstOf w → 8 ≤ x → held (x - 7) ≡ sameConstant (rename σ (typeOf w))
+  pub constant-same : kindOf w ≡ 5 → (x : ℕ) → x ≡ firstOf w → 8 ≤ x → constantHeld (x - 7) ≡ sameConstant (rename σ (typeOf w))
   constant-same e x ex h = let z : x - 7 ≡ suc (x - 8) = omega arith in rw (type-same σ w e, ← ex, le-ltb x 8 h, z)
 
 -- the constant of x where nothing was tested
@@ -44,7 +44,7 @@ module _ (words frames constants : List ℕ) (x : ℕ) where
   abbrev untested : Values
   untested = valuesOf words frames constants 0 0
 
-  pub constant-itself : 256 ≤ x → held (x - 255) ≡ constantsOf untested (depAt x)
+  pub constant-itself : 256 ≤ x → constantHeld (x - 255) ≡ constantsOf untested (depAt x)
   unfolding constantsOf
   constant-itself h = let z : x - 255 ≡ suc (x - 256) = omega arith in rw (dep-constant x h, z)
 
@@ -52,15 +52,15 @@ module _ (words frames constants : List ℕ) (x : ℕ) where
   frame = λ i. getD (framesOf frames) (birthplace x) 0 + i
 
   module _ (h : x < 256) where
-    pub constant-any : getD words x 0 ≡ 0 → held (getD constants (x / 8) 0) ≡ constantsOf untested (depAt x)
+    pub constant-any : getD words x 0 ≡ 0 → constantHeld (getD constants (x / 8) 0) ≡ constantsOf untested (depAt x)
     unfolding constantsOf typed
     constant-any e =
-        let k = held (getD constants (x / 8) 0) in
+        let k = constantHeld (getD constants (x / 8) 0) in
         rw (dep-name x h, eq-eqb (getD words x 0) 0 e, type-any frame (getD words x 0) (rw e), pick-same (eqb x 0) 0)
         (sym (append-nil (k ++ []) ∙ append-nil k))
 
     pub constant-typed : (getD words x 0 ≡ 0 → ⊥) → (s : ℕ)
-        → ((σ : ℕ → ℕ) → held s ≡ sameConstant (rename σ (typeOf (getD words x 0)))) → held s ≡ constantsOf untested (depAt x)
+        → ((σ : ℕ → ℕ) → constantHeld s ≡ sameConstant (rename σ (typeOf (getD words x 0)))) → constantHeld s ≡ constantsOf untested (depAt x)
     unfolding constantsOf typed
     constant-typed n s es = rw (dep-name x h, ne-eqb (getD words x 0) 0 n, ← es frame) (simp (pick-same, append-nil))
 
@@ -68,8 +68,8 @@ module _ (words frames constants : List ℕ) (x : ℕ) where
 
 -- k and l are the constants of x and y, which are not one
 module _ (words frames constants : List ℕ) (tested equal x y : ℕ) (n : x ≡ y → ⊥) (k l : ℕ)
-    (ek : held k ≡ constantsOf (valuesOf words frames constants 0 0) (depAt x))
-    (el : held l ≡ constantsOf (valuesOf words frames constants 0 0) (depAt y)) where
+    (ek : constantHeld k ≡ constantsOf (valuesOf words frames constants 0 0) (depAt x))
+    (el : constantHeld l ≡ constantsOf (valuesOf words frames constants 0 0) (depAt y)) where
   abbrev share : Bool
   share = sharedConstant (valuesOf words frames constants tested equal) (depAt x) (depAt y)
 
@@ -155,54 +155,49 @@ module _ (vs : Values) (x y : ℕ) where
 
 -- ---- tags
 
-module _ (types tags : List ℕ) (n t : ℕ) where
+module _ (types tags : List ℕ) (past : Bool) (n t : ℕ) where
   abbrev 𝒯 : Tables
   𝒯 = tablesOf types tags
 
-  pub tag-none : n ≡ 0 → false ≡ some (tagOf 𝒯 t) (held n)
-  tag-none e = sym (some-none (tagOf 𝒯 t) n e)
+  abbrev serves : ℕ → Bool
+  serves = servesAsTag past 𝒯 t
 
-  pub tag-past : (n ≡ 0 → ⊥) → length tags ≤ n - 1 → false ≡ some (tagOf 𝒯 t) (held n)
-  unfolding tagOf tablesOf _and_
-  tag-past h l = sym (some-one (tagOf 𝒯 t) n (omega arith) ∙ rw (le-ltb (n - 1) (length tags) l))
+  pub tag-none : n ≡ 0 → false ≡ some serves (constantHeld n)
+  tag-none e = sym (some-none serves n e)
 
-  pub tag-is : (n ≡ 0 → ⊥) → n - 1 < length tags → eqb (getD tags (n - 1) 0) t ≡ some (tagOf 𝒯 t) (held n)
-  unfolding tagOf tablesOf _and_
-  tag-is h l = sym (some-one (tagOf 𝒯 t) n (omega arith) ∙ rw (lt-ltb (n - 1) (length tags) l))
-
-  pub beyond-none : n ≡ 0 → false ≡ some (tagOrBeyond 𝒯 t) (held n)
-  beyond-none e = sym (some-none (tagOrBeyond 𝒯 t) n e)
-
-  pub beyond-past : (n ≡ 0 → ⊥) → length tags ≤ n - 1 → true ≡ some (tagOrBeyond 𝒯 t) (held n)
+  pub tag-past : (n ≡ 0 → ⊥) → length tags ≤ n - 1 → past ≡ some serves (constantHeld n)
   unfolding tagOf beyond tablesOf _and_ _or_
-  beyond-past h l =
-      sym (some-one (tagOrBeyond 𝒯 t) n (omega arith) ∙ rw (le-ltb (n - 1) (length tags) l, le-leb (length tags) (n - 1) l))
+  tag-past h l =
+      sym (some-one serves n (omega arith)
+      ∙ byTest past (λ q. rw (q, le-ltb (n - 1) (length tags) l, le-leb (length tags) (n - 1) l))
+      (λ q. rw (q, le-ltb (n - 1) (length tags) l)))
 
-  pub beyond-is : (n ≡ 0 → ⊥) → n - 1 < length tags → eqb (getD tags (n - 1) 0) t ≡ some (tagOrBeyond 𝒯 t) (held n)
+  pub tag-is : (n ≡ 0 → ⊥) → n - 1 < length tags → eqb (getD tags (n - 1) 0) t ≡ some serves (constantHeld n)
   unfolding tagOf beyond tablesOf _and_
-  beyond-is h l =
-      sym (some-one (tagOrBeyond 𝒯 t) n (omega arith)
-      ∙ rw (lt-ltb (n - 1) (length tags) l, lt-leb (length tags) (n - 1) l) (or-false _))
+  tag-is h l =
+      sym (some-one serves n (omega arith)
+      ∙ byTest past (λ q. rw (q, lt-ltb (n - 1) (length tags) l, lt-leb (length tags) (n - 1) l) (or-false _))
+      (λ q. rw (q, lt-ltb (n - 1) (length tags) l)))
 
 -- k is the constant of x where nothing was tested
 module _ (words frames constants : List ℕ) (tested equal x k : ℕ)
-    (e : held k ≡ constantsOf (valuesOf words frames constants 0 0) (depAt x)) where
+    (e : constantHeld k ≡ constantsOf (valuesOf words frames constants 0 0) (depAt x)) where
   abbrev us : Values
   us = valuesOf words frames constants tested equal
 
-  two : constantsOf us (depAt x) ≡ held k ++ held (testedConstant tested equal (depAt x))
+  two : constantsOf us (depAt x) ≡ constantHeld k ++ constantHeld (testedConstant tested equal (depAt x))
   two = constants-are words frames constants tested equal x k e
 
   module _ (f : ℕ → Bool) where
-    pub known-own : some f (held k) ≡ true → true ≡ some f (constantsOf us (depAt x))
+    pub known-own : some f (constantHeld k) ≡ true → true ≡ some f (constantsOf us (depAt x))
     known-own h = some-first f k (testedConstant tested equal (depAt x)) _ two h
 
-    pub known-tested : some f (held k) ≡ false → (s : ℕ) → s ≡ testedConstant tested equal (depAt x)
-        → (b : Bool) → b ≡ some f (held s) → b ≡ some f (constantsOf us (depAt x))
+    pub known-tested : some f (constantHeld k) ≡ false → (s : ℕ) → s ≡ testedConstant tested equal (depAt x)
+        → (b : Bool) → b ≡ some f (constantHeld s) → b ≡ some f (constantsOf us (depAt x))
     known-tested h s es b eb = some-second f k (testedConstant tested equal (depAt x)) _ two h b (rw es at eb)
 
   pub first-known : (𝒯 : Tables) (s : ℕ) → s ≡ testedConstant tested equal (depAt x)
-      → (r : Reference) → r ≡ firstTag 𝒯 (held k ++ held s) → r ≡ firstTag 𝒯 (constantsOf us (depAt x))
+      → (r : Reference) → r ≡ firstTag 𝒯 (constantHeld k ++ constantHeld s) → r ≡ firstTag 𝒯 (constantsOf us (depAt x))
   first-known 𝒯 s es r er = er ∙ rw (two, es)
 
   -- x is a value
@@ -217,61 +212,61 @@ module _ (words frames constants : List ℕ) (tested equal x k : ℕ)
 
 -- ---- what a value is, by its kind
 
-module _ (𝒯 : Tables) (vs : Values) (v k : ℕ) (ek : k ≡ kindOf (getD (vs .words) v 0)) where
+module _ (vs : Values) (v k : ℕ) (ek : k ≡ kindOf (getD (vs .words) v 0)) where
   abbrev σ : ℕ → ℕ
   σ = λ i. getD (vs .frames) (birthplace v) 0 + i
 
   abbrev m : ℕ
   m = getD (vs .words) v 0
 
-  module _ (t u : ℕ) (eu : u ≡ recordOf m) where
-    pub ref-ref : k ≡ 1 → eqb u t ≡ isRef 𝒯 vs t (typed vs v)
-    unfolding isRef typed
-    ref-ref h = rw (type-ref σ m (sym ek ∙ h), ← eu)
+  module _ (u : ℕ) (eu : u ≡ recordOf m) where
+    pub refers-ref : k ≡ 1 → toRecord u ≡ refers (typed vs v)
+    unfolding refers typed
+    refers-ref h = rw (type-ref σ m (sym ek ∙ h), ← eu)
 
-    pub ref-in : k ≡ 8 → eqb u t ≡ isRef 𝒯 vs t (typed vs v)
-    unfolding isRef typed _and_
-    ref-in h = rw (type-span σ m 2 (sym ek ∙ h), ← eu)
+    pub refers-in : k ≡ 8 → toRecord u ≡ refers (typed vs v)
+    unfolding refers typed
+    refers-in h = rw (type-span σ m 2 (sym ek ∙ h), ← eu)
 
-    pub maybe-maybe : k ≡ 2 → eqb u t ≡ isMaybe 𝒯 vs t (typed vs v)
+    pub maybe-maybe : (𝒯 : Tables) (t : ℕ) → k ≡ 2 → eqb u t ≡ isMaybe 𝒯 vs t (typed vs v)
     unfolding isMaybe typed
-    maybe-maybe h = rw (type-maybe σ m (sym ek ∙ h), ← eu)
+    maybe-maybe 𝒯 t h = rw (type-maybe σ m (sym ek ∙ h), ← eu)
 
-  pub ref-other : (t : ℕ) → (k ≡ 1 → ⊥) → (k ≡ 8 → ⊥) → (k ≡ 4 → ⊥) → false ≡ isRef 𝒯 vs t (typed vs v)
-  unfolding isRef typed _and_
-  ref-other t n1 n8 n4 =
+    -- the tag d wanted is one of its record type
+    pub tag-of-record : (𝒯 : Tables) (present : Bool) (d : Dep) → byRecord present k ≡ true
+        → (b : Bool) → b ≡ some (servesAsTag false 𝒯 u) (constantsOf vs d) → b ≡ tagFits 𝒯 vs present d (typed vs v)
+    unfolding byRecord tagFits isTagged isPresent typed knownTag _and_
+    tag-of-record 𝒯 true d h b eb =
+        either (or-true (eqb k 1) (eqb k 8) h)
+        (λ q. rw (type-ref σ m (sym ek ∙ eqb-true k 1 q), ← eu) eb)
+        (λ q. rw (type-span σ m 2 (sym ek ∙ eqb-true k 8 q), ← eu) eb)
+    tag-of-record 𝒯 false d h b eb =
+        either (or-true (eqb k 1) (eqb k 8 or eqb k 2) h)
+        (λ q. rw (type-ref σ m (sym ek ∙ eqb-true k 1 q), ← eu) eb)
+        (λ h. either (or-true (eqb k 8) (eqb k 2) h)
+        (λ q. rw (type-span σ m 2 (sym ek ∙ eqb-true k 8 q), ← eu) eb)
+        (λ q. rw (type-maybe σ m (sym ek ∙ eqb-true k 2 q), ← eu) eb))
+
+  pub refers-other : (k ≡ 1 → ⊥) → (k ≡ 8 → ⊥) → (k ≡ 4 → ⊥) → byNothing ≡ refers (typed vs v)
+  unfolding refers typed
+  refers-other n1 n8 n4 =
       byKind (kindOf m) (λ e. rw (type-any σ m e)) (λ e. absurd (n1 (ek ∙ e))) (λ e. rw (type-maybe σ m e)) (λ e. rw (type-tagged σ m e))
       (λ e. absurd (n4 (ek ∙ e))) (λ e. rw (type-same σ m e)) (λ j e. rw (type-span σ m j e, ne-eqb j 2 (λ z. n8 (omega arith))))
 
-  pub maybe-other : (t : ℕ) → (k ≡ 2 → ⊥) → (k ≡ 3 → ⊥) → false ≡ isMaybe 𝒯 vs t (typed vs v)
+  pub maybe-other : (𝒯 : Tables) (t : ℕ) → (k ≡ 2 → ⊥) → (k ≡ 3 → ⊥) → false ≡ isMaybe 𝒯 vs t (typed vs v)
   unfolding isMaybe typed
-  maybe-other t n2 n3 =
+  maybe-other 𝒯 t n2 n3 =
       byKind (kindOf m) (λ e. rw (type-any σ m e)) (λ e. rw (type-ref σ m e)) (λ e. absurd (n2 (ek ∙ e))) (λ e. absurd (n3 (ek ∙ e)))
       (λ e. rw (type-present σ m e)) (λ e. rw (type-same σ m e)) (λ j e. rw (type-span σ m j e))
 
-  -- the tag d wanted is one of its record type u
-  pub tag-of-record : (present : Bool) (d : Dep) (u : ℕ) → byRecord present k ≡ true → u ≡ recordOf m
-      → (b : Bool) → b ≡ knownTag 𝒯 vs u d → b ≡ tagFits 𝒯 vs present d (typed vs v)
-  unfolding byRecord tagFits isTagged isPresent typed _and_
-  tag-of-record true d u h eu b eb =
-      either (or-true (eqb k 1) (eqb k 8) h)
-      (λ q. rw (type-ref σ m (sym ek ∙ eqb-true k 1 q), ← eu) eb)
-      (λ q. rw (type-span σ m 2 (sym ek ∙ eqb-true k 8 q), ← eu) eb)
-  tag-of-record false d u h eu b eb =
-      either (or-true (eqb k 1) (eqb k 8 or eqb k 2) h)
-      (λ q. rw (type-ref σ m (sym ek ∙ eqb-true k 1 q), ← eu) eb)
-      (λ h. either (or-true (eqb k 8) (eqb k 2) h)
-      (λ q. rw (type-span σ m 2 (sym ek ∙ eqb-true k 8 q), ← eu) eb)
-      (λ q. rw (type-maybe σ m (sym ek ∙ eqb-true k 2 q), ← eu) eb))
-
-  pub tag-other : (present : Bool) (d : Dep) → byRecord present k ≡ false → byOwnTag present k ≡ false
+  pub tag-other : (𝒯 : Tables) (present : Bool) (d : Dep) → byRecord present k ≡ false → byOwnTag present k ≡ false
       → false ≡ tagFits 𝒯 vs present d (typed vs v)
   unfolding byRecord byOwnTag tagFits isTagged isPresent typed _and_ _or_
-  tag-other true d r o =
+  tag-other 𝒯 true d r o =
       byKind (kindOf m) (λ e. rw (type-any σ m e)) (λ e. absurd (false≢true (sym (rw (ek ∙ e) at r)))) (λ e. rw (type-maybe σ m e))
       (λ e. rw (type-tagged σ m e)) (λ e. absurd (false≢true (sym (rw (ek ∙ e) at o)))) (λ e. rw (type-same σ m e))
       (λ j e. byEqual j 2 (λ z. let q : k ≡ 8 = omega arith in absurd (false≢true (sym (rw q at r)))) (λ n. rw (type-span σ m j e, ne-eqb j 2 n)))
-  tag-other false d r o =
+  tag-other 𝒯 false d r o =
       byKind (kindOf m) (λ e. rw (type-any σ m e)) (λ e. absurd (false≢true (sym (rw (ek ∙ e) at r))))
       (λ e. absurd (false≢true (sym (rw (ek ∙ e) at r)))) (λ e. absurd (false≢true (sym (rw (ek ∙ e) at o))))
       (λ e. absurd (false≢true (sym (rw (ek ∙ e) at o)))) (λ e. rw (type-same σ m e))
@@ -283,40 +278,63 @@ module _ (𝒯 : Tables) (vs : Values) (v k : ℕ) (ek : k ≡ kindOf (getD (vs 
     unfolding siblingOf
     own = ex ∙ rw ep
 
-    pub ref-present : (t : ℕ) → k ≡ 4 → (b : Bool) → b ≡ knownTag 𝒯 vs t (depAt x) → b ≡ isRef 𝒯 vs t (typed vs v)
-    unfolding isRef typed
-    ref-present t h b eb = rw (type-present σ m (sym ek ∙ h), ← own) eb
+    pub refers-present : k ≡ 4 → byTag (depAt x) ≡ refers (typed vs v)
+    unfolding refers typed
+    refers-present h = rw (type-present σ m (sym ek ∙ h), ← own)
 
-    pub maybe-tagged : (t : ℕ) → k ≡ 3 → (b : Bool) → b ≡ some (tagOrBeyond 𝒯 t) (constantsOf vs (depAt x)) → b ≡ isMaybe 𝒯 vs t (typed vs v)
+    pub maybe-tagged : (𝒯 : Tables) (t : ℕ) → k ≡ 3 → (b : Bool) → b ≡ some (servesAsTag true 𝒯 t) (constantsOf vs (depAt x))
+        → b ≡ isMaybe 𝒯 vs t (typed vs v)
     unfolding isMaybe typed
-    maybe-tagged t h b eb = rw (type-tagged σ m (sym ek ∙ h), ← own) eb
+    maybe-tagged 𝒯 t h b eb = rw (type-tagged σ m (sym ek ∙ h), ← own) eb
 
     -- its own tag is known equal to the tag d wanted
-    pub tag-of-own : (present : Bool) (d : Dep) → byOwnTag present k ≡ true
+    pub tag-of-own : (𝒯 : Tables) (present : Bool) (d : Dep) → byOwnTag present k ≡ true
         → (b : Bool) → b ≡ knownEqual vs (depAt x) d → b ≡ tagFits 𝒯 vs present d (typed vs v)
     unfolding byOwnTag tagFits isTagged isPresent typed
-    tag-of-own true d h b eb = rw (type-present σ m (sym ek ∙ eqb-true k 4 h), ← own) eb
-    tag-of-own false d h b eb =
+    tag-of-own 𝒯 true d h b eb = rw (type-present σ m (sym ek ∙ eqb-true k 4 h), ← own) eb
+    tag-of-own 𝒯 false d h b eb =
         either (or-true (eqb k 4) (eqb k 3) h) (λ q. rw (type-present σ m (sym ek ∙ eqb-true k 4 q), ← own) eb)
         (λ q. rw (type-tagged σ m (sym ek ∙ eqb-true k 3 q), ← own) eb)
 
-    pub reference-present : k ≡ 4 → (r : Reference) → r ≡ firstTag 𝒯 (constantsOf vs (depAt x)) → r ≡ referenceOf 𝒯 vs (typed vs v)
-    unfolding referenceOf typed
-    reference-present h r er = rw (type-present σ m (sym ek ∙ h), ← own) er
+-- what makes a value a reference says whether it is Ref t, and which record it refers to
+module _ (𝒯 : Tables) (vs : Values) where
+  abbrev pub refTo : ℕ → Refers → Bool
+  refTo t (toRecord u) = eqb u t
+  refTo t (byTag d) = some (servesAsTag false 𝒯 t) (constantsOf vs d)
+  refTo t byNothing = false
 
-  pub reference-ref : k ≡ 1 → (u : ℕ) → u ≡ recordOf m → To u ≡ referenceOf 𝒯 vs (typed vs v)
-  unfolding referenceOf typed
-  reference-ref h u eu = rw (type-ref σ m (sym ek ∙ h), ← eu)
+  abbrev pub referenceBy : Refers → Reference
+  referenceBy (toRecord u) = To u
+  referenceBy (byTag d) = firstTag 𝒯 (constantsOf vs d)
+  referenceBy byNothing = Nothing
 
-  pub reference-in : k ≡ 8 → (u : ℕ) → u ≡ recordOf m → To u ≡ referenceOf 𝒯 vs (typed vs v)
-  unfolding referenceOf typed
-  reference-in h u eu = rw (type-span σ m 2 (sym ek ∙ h), ← eu)
+  ref-by : (t : ℕ) (ty : Ty) → refTo t (refers ty) ≡ isRef 𝒯 vs t ty
+  unfolding refers isRef knownTag _and_
+  ref-by t any = refl
+  ref-by t (ref u) = refl
+  ref-by t (maybe u) = refl
+  ref-by t (tagged d) = refl
+  ref-by t (present d) = refl
+  ref-by t (same d) = refl
+  ref-by t (span k u d e) = byTest (eqb k 2) (λ q. rw q) (λ q. rw q)
 
-  pub reference-other : (k ≡ 1 → ⊥) → (k ≡ 8 → ⊥) → (k ≡ 4 → ⊥) → Nothing ≡ referenceOf 𝒯 vs (typed vs v)
-  unfolding referenceOf typed
-  reference-other n1 n8 n4 =
-      byKind (kindOf m) (λ e. rw (type-any σ m e)) (λ e. absurd (n1 (ek ∙ e))) (λ e. rw (type-maybe σ m e)) (λ e. rw (type-tagged σ m e))
-      (λ e. absurd (n4 (ek ∙ e))) (λ e. rw (type-same σ m e)) (λ j e. rw (type-span σ m j e, ne-eqb j 2 (λ z. n8 (omega arith))))
+  reference-by : (ty : Ty) → referenceBy (refers ty) ≡ referenceOf 𝒯 vs ty
+  unfolding refers referenceOf
+  reference-by any = refl
+  reference-by (ref t) = refl
+  reference-by (maybe t) = refl
+  reference-by (tagged d) = refl
+  reference-by (present d) = refl
+  reference-by (same d) = refl
+  reference-by (span k t d e) = byTest (eqb k 2) (λ q. rw q) (λ q. rw q)
+
+  -- r is what the code says of the type
+  module _ (ty : Ty) (r s : Referred) (is : r ≡ s) (e : refersOf r ≡ refers ty) where
+    pub ref-told : (t : ℕ) (b : Bool) → b ≡ refTo t (refersOf s) → b ≡ isRef 𝒯 vs t ty
+    ref-told t b eb = eb ∙ ap (λ x. refTo t (refersOf x)) (sym is) ∙ ap (refTo t) e ∙ ref-by t ty
+
+    pub reference-told : (a : Reference) → a ≡ referenceBy (refersOf s) → a ≡ referenceOf 𝒯 vs ty
+    reference-told a ea = ea ∙ ap (λ x. referenceBy (refersOf x)) (sym is) ∙ ap referenceBy e ∙ reference-by ty
 
 -- how a kind fits Tagged, and Present
 module _ (present : Bool) (k : ℕ) where
@@ -483,28 +501,28 @@ module _ (types tags : List ℕ) where
   abbrev 𝒮 : Tables
   𝒮 = tablesOf types tags
 
-  no-tag : (n : ℕ) (l : List ℕ) → (n ≡ 0) ⊎ (length tags < n) → firstTag 𝒮 (held n ++ l) ≡ firstTag 𝒮 l
+  no-tag : (n : ℕ) (l : List ℕ) → (n ≡ 0) ⊎ (length tags < n) → firstTag 𝒮 (constantHeld n ++ l) ≡ firstTag 𝒮 l
   unfolding firstTag tablesOf
   no-tag zero l h = refl
   no-tag (suc k) l (inl e) = absurd (omega arith)
   no-tag (suc k) l (inr h) = rw (le-ltb k (length tags) (omega arith))
 
-  a-tag : (n : ℕ) (l : List ℕ) → 0 < n → n ≤ length tags → firstTag 𝒮 (held n ++ l) ≡ To (getD tags (n - 1) 0)
+  a-tag : (n : ℕ) (l : List ℕ) → 0 < n → n ≤ length tags → firstTag 𝒮 (constantHeld n ++ l) ≡ To (getD tags (n - 1) 0)
   unfolding firstTag tablesOf
   a-tag zero l h q = absurd (omega arith)
   a-tag (suc k) l h q = let z : suc k - 1 ≡ k = omega arith in rw (lt-ltb k (length tags) (omega arith), z)
 
   module _ (k l : ℕ) where
-    pub first-own : (0 < k) × (k ≤ length tags) → To (getD tags (k - 1) 0) ≡ firstTag 𝒮 (held k ++ held l)
-    first-own h = sym (a-tag k (held l) (h .0) (h .1))
+    pub first-own : (0 < k) × (k ≤ length tags) → To (getD tags (k - 1) 0) ≡ firstTag 𝒮 (constantHeld k ++ constantHeld l)
+    first-own h = sym (a-tag k (constantHeld l) (h .0) (h .1))
 
     module _ (n : (k ≡ 0) ⊎ (length tags < k)) where
-      past : firstTag 𝒮 (held k ++ held l) ≡ firstTag 𝒮 (held l ++ [])
-      past = no-tag k (held l) n ∙ simp append-nil
+      past : firstTag 𝒮 (constantHeld k ++ constantHeld l) ≡ firstTag 𝒮 (constantHeld l ++ [])
+      past = no-tag k (constantHeld l) n ∙ simp append-nil
 
-      pub first-tested : (0 < l) × (l ≤ length tags) → To (getD tags (l - 1) 0) ≡ firstTag 𝒮 (held k ++ held l)
+      pub first-tested : (0 < l) × (l ≤ length tags) → To (getD tags (l - 1) 0) ≡ firstTag 𝒮 (constantHeld k ++ constantHeld l)
       first-tested h = sym (past ∙ a-tag l [] (h .0) (h .1))
 
-      pub first-none : (l ≡ 0) ⊎ (length tags < l) → Nothing ≡ firstTag 𝒮 (held k ++ held l)
+      pub first-none : (l ≡ 0) ⊎ (length tags < l) → Nothing ≡ firstTag 𝒮 (constantHeld k ++ constantHeld l)
       unfolding firstTag
       first-none h = sym (past ∙ no-tag l [] h)

@@ -10,7 +10,7 @@ use borrow.Author.Tests.{lt-ltb, le-ltb, eq-eqb, ne-eqb}
 use Rattle.model.specs.Question.{_or_, pick}
 use Rattle.model.specs.Word.{kindOf, recordOf, firstOf, secondOf}
 use Rattle.model.specs.Types.{Dep, name, con, depOf, renameDep, any, ref, maybe, tagged, present, same, span, typeOf, rename}
-use Rattle.model.specs.Reading.{Values, typed, held, constantsOf, some, sameDep}
+use Rattle.model.specs.Reading.{Values, typed, constantHeld, constantsOf, some, sameDep}
 use Rattle.model.proofs.Logic.{byTest, byEqual, byLess}
 use Rattle.model.proofs.Lists.{map-set}
 use Rattle.fits.specs.Numbers.{frameOf, framesOf, valuesOf, depAt, siblingOf, namedOf, testedConstant, oneConstant, sharedConstant}
@@ -122,23 +122,23 @@ unfolding some _or_
 some-both f [] ys = refl
 some-both f (x ∷ xs) ys = byTest (f x) (λ e. rw e) (λ e. rw e (some-both f xs ys))
 
-pub some-none : (f : ℕ → Bool) (n : ℕ) → n ≡ 0 → some f (held n) ≡ false
+pub some-none : (f : ℕ → Bool) (n : ℕ) → n ≡ 0 → some f (constantHeld n) ≡ false
 unfolding some
 some-none f n e = rw e
 
-pub some-one : (f : ℕ → Bool) (n : ℕ) → 0 < n → some f (held n) ≡ f (n - 1)
+pub some-one : (f : ℕ → Bool) (n : ℕ) → 0 < n → some f (constantHeld n) ≡ f (n - 1)
 unfolding some _or_
-some-one f n h = let e : n ≡ suc (n - 1) = omega arith in ap {B = Bool} (λ (m : ℕ). some f (held m)) e ∙ byTest (f (n - 1)) (λ q. rw q) (λ q. rw q)
+some-one f n h = let e : n ≡ suc (n - 1) = omega arith in ap {B = Bool} (λ (m : ℕ). some f (constantHeld m)) e ∙ byTest (f (n - 1)) (λ q. rw q) (λ q. rw q)
 
 -- the answers of two constants
-module _ (f : ℕ → Bool) (k l : ℕ) (cs : List ℕ) (e : cs ≡ held k ++ held l) where
-  pub some-first : some f (held k) ≡ true → true ≡ some f cs
+module _ (f : ℕ → Bool) (k l : ℕ) (cs : List ℕ) (e : cs ≡ constantHeld k ++ constantHeld l) where
+  pub some-first : some f (constantHeld k) ≡ true → true ≡ some f cs
   unfolding _or_
-  some-first h = rw (e, some-both f (held k) (held l), h)
+  some-first h = rw (e, some-both f (constantHeld k) (constantHeld l), h)
 
-  pub some-second : some f (held k) ≡ false → (b : Bool) → b ≡ some f (held l) → b ≡ some f cs
+  pub some-second : some f (constantHeld k) ≡ false → (b : Bool) → b ≡ some f (constantHeld l) → b ≡ some f cs
   unfolding _or_
-  some-second g b eb = rw (e, some-both f (held k) (held l), g) eb
+  some-second g b eb = rw (e, some-both f (constantHeld k) (constantHeld l), g) eb
 
 -- ---- one constant
 
@@ -150,7 +150,7 @@ or-false false = refl
 either-way : (a b : ℕ) → eqb a b ≡ eqb b a
 either-way a b = byEqual a b (λ e. rw (eq-eqb a b e, eq-eqb b a (sym e))) (λ n. rw (ne-eqb a b n, ne-eqb b a (λ e. n (sym e))))
 
-pub held-is : (n c : ℕ) → some (eqb c) (held n) ≡ eqb n (suc c)
+pub held-is : (n c : ℕ) → some (eqb c) (constantHeld n) ≡ eqb n (suc c)
 unfolding some _or_
 held-is zero c = sym (ne-eqb 0 (suc c) (λ e. omega arith))
 held-is (suc d) c =
@@ -170,19 +170,20 @@ pub one-is : (k l : ℕ) → (k ≡ 0 → ⊥) → eqb k l ≡ oneConstant k l
 unfolding oneConstant
 one-is k l n =
     let e : suc (k - 1) ≡ k = omega arith in
-    sym (some-one (λ c. some (eqb c) (held l)) k (omega arith) ∙ held-is l (k - 1) ∙ rw e (either-way l k))
+    sym (some-one (λ c. some (eqb c) (constantHeld l)) k (omega arith) ∙ held-is l (k - 1) ∙ rw e (either-way l k))
 
 -- one of two constants
-one-among : (k l t : ℕ) → some (λ c. some (eqb c) (held l ++ held t)) (held k) ≡ oneConstant k l or oneConstant k t
+one-among : (k l t : ℕ) → some (λ c. some (eqb c) (constantHeld l ++ constantHeld t)) (constantHeld k) ≡ oneConstant k l or oneConstant k t
 unfolding some oneConstant _or_
 one-among zero l t = refl
-one-among (suc c) l t = rw (some-both (eqb c) (held l) (held t)) (simp or-false)
+one-among (suc c) l t = rw (some-both (eqb c) (constantHeld l) (constantHeld t)) (simp or-false)
 
-module _ (vs : Values) (d e : Dep) (k l s t : ℕ) (ed : constantsOf vs d ≡ held k ++ held s) (ee : constantsOf vs e ≡ held l ++ held t) where
+module _ (vs : Values) (d e : Dep) (k l s t : ℕ) (ed : constantsOf vs d ≡ constantHeld k ++ constantHeld s)
+    (ee : constantsOf vs e ≡ constantHeld l ++ constantHeld t) where
   pub shared-parts : sharedConstant vs d e ≡ (oneConstant k l or oneConstant k t) or (oneConstant s l or oneConstant s t)
   unfolding sharedConstant
   shared-parts =
-      rw (ed, ee, some-both (λ c. some (eqb c) (held l ++ held t)) (held k) (held s), one-among k l t, one-among s l t)
+      rw (ed, ee, some-both (λ c. some (eqb c) (constantHeld l ++ constantHeld t)) (constantHeld k) (constantHeld s), one-among k l t, one-among s l t)
 
 -- ---- the constant that a test gave
 
@@ -217,11 +218,11 @@ pick-same false n = refl
 
 module _ (words frames constants : List ℕ) (tested equal : ℕ) where
   tested-adds : (d : Dep) → constantsOf (valuesOf words frames constants tested equal) d
-      ≡ constantsOf (valuesOf words frames constants 0 0) d ++ held (testedConstant tested equal d)
+      ≡ constantsOf (valuesOf words frames constants 0 0) d ++ constantHeld (testedConstant tested equal d)
   unfolding constantsOf testedConstant typed
   tested-adds (name v) = simp (pick-same, append-nil)
   tested-adds (con c) = refl
 
-  pub constants-are : (x k : ℕ) → held k ≡ constantsOf (valuesOf words frames constants 0 0) (depAt x)
-      → constantsOf (valuesOf words frames constants tested equal) (depAt x) ≡ held k ++ held (testedConstant tested equal (depAt x))
+  pub constants-are : (x k : ℕ) → constantHeld k ≡ constantsOf (valuesOf words frames constants 0 0) (depAt x)
+      → constantsOf (valuesOf words frames constants tested equal) (depAt x) ≡ constantHeld k ++ constantHeld (testedConstant tested equal (depAt x))
   constants-are x k e = tested-adds (depAt x) ∙ rw e

@@ -8,9 +8,11 @@ use lib.ListN.{getD}
 use denote.Ref.{RefT, now}
 use denote.Triple.Both.{Both}
 use Rattle.model.specs.Question.{_or_, pick}
-use Rattle.model.specs.Types.{Dep, name, con, depOf, renameDep, Ty, typeOf, rename}
+use Rattle.model.specs.Types.{Dep, name, con, depOf, renameDep, Ty, any, ref, maybe, tagged, present, same, span, typeOf, rename}
 use Rattle.model.specs.Table.{Tables, tablesOf}
-use Rattle.model.specs.Reading.{Values, held, constantsOf, some, tagOf, beyond, isTagged, isPresent, fits}
+use Rattle.model.specs.Reading.{Values, typed, constantHeld, constantsOf, some, tagOf, beyond, isTagged, isPresent, fits}
+use Rattle.fits.specs.declared.Referred.{Referred}
+use Rattle.fits.specs.declared.Referred.the-variants.{Record, Tag, Neither}
 
 -- A frame is held as the birthplace of its eight names. There are 32 birthplaces, so that every name is below 256.
 abbrev pub frameOf : ℕ → ℕ
@@ -50,6 +52,15 @@ namedOf names x = renameDep (λ i. getD names i 0) (depOf x)
 abbrev pub meant : List ℕ → ℕ → Ty
 meant names w = rename (λ i. getD names i 0) (typeOf w)
 
+-- what is asked of the value v: of its type, and whether it fits the type word w
+abbrev pub ofValue : {A : Type 0} → (Tables → Values → Ty → A) → List ℕ → Lent → Lent → Lent → Lent → ℕ → ℕ → ℕ → A
+ofValue asked types tags words frames constants tested equal v =
+    asked (tablesIn types tags) (valuesIn words frames constants tested equal) (typed (valuesIn words frames constants tested equal) v)
+
+abbrev pub fitsIn : List ℕ → Lent → Lent → Lent → Lent → ℕ → ℕ → ℕ → ℕ → Lent → Bool
+fitsIn types tags words frames constants tested equal v w names =
+    fits (tablesIn types tags) (valuesIn words frames constants tested equal) v (meant (now (names .entry)) w)
+
 -- ---- known constants
 
 -- 01: 'Opcode 11 taken: ra is known to be the constant'
@@ -59,15 +70,39 @@ testedConstant tested equal (con c) = 0
 
 -- k and l hold one constant
 unfoldable pub oneConstant : ℕ → ℕ → Bool
-oneConstant k l = some (λ c. some (eqb c) (held l)) (held k)
+oneConstant k l = some (λ c. some (eqb c) (constantHeld l)) (constantHeld k)
 
 -- 01: 'have the same known constant'
 unfoldable pub sharedConstant : Values → Dep → Dep → Bool
 sharedConstant vs x y = some (λ c. some (eqb c) (constantsOf vs y)) (constantsOf vs x)
 
--- 01: 'a tag of T or beyond the table'
-abbrev pub tagOrBeyond : Tables → ℕ → ℕ → Bool
-tagOrBeyond 𝒯 t k = tagOf 𝒯 t k or beyond 𝒯 k
+-- 01: 'a tag of T or beyond the table'; or a tag of T alone
+abbrev pub servesAsTag : Bool → Tables → ℕ → ℕ → Bool
+servesAsTag true 𝒯 t k = tagOf 𝒯 t k or beyond 𝒯 k
+servesAsTag false 𝒯 t k = tagOf 𝒯 t k
+
+-- ---- references
+
+-- what makes a value of a type a reference: its record type, its dependency where that is a tag, or nothing
+pub data Refers : Type 0 where
+  toRecord : ℕ → Refers
+  byTag : Dep → Refers
+  byNothing : Refers
+
+unfoldable pub refers : Ty → Refers
+refers any = byNothing
+refers (ref t) = toRecord t
+refers (maybe t) = byNothing
+refers (tagged d) = byNothing
+refers (present d) = byTag d
+refers (same d) = byNothing
+refers (span k t d e) = pick (eqb k 2) (toRecord t) byNothing
+
+-- the same as the code says it
+abbrev pub refersOf : Referred → Refers
+refersOf (Record t) = toRecord t
+refersOf (Tag x) = byTag (depAt x)
+refersOf Neither = byNothing
 
 -- ---- Tagged, and Present
 

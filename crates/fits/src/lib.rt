@@ -5,29 +5,17 @@ ghost use mathlib.Core.Path.{_≡_};
 ghost use mathlib.Core.List.{List, _++_};
 ghost use mathlib.Core.Bool.{true, false};
 ghost use mathlib.Core.Logic.{_⊎_};
-ghost use Prim.Native.Nat.{ℕ, _/_, _≤_, _<_};
+ghost use Prim.Native.Nat.{ℕ, _≤_, _<_};
 ghost use lib.ListN.{length, getD};
+ghost use Rattle.model.specs.Word.{kindOf};
 ghost use Rattle.model.specs.Types.{typeOf, rename};
 ghost use Rattle.model.specs.Table.{tablesOf};
-ghost use Rattle.model.specs.Reading.{birthplace, held, sameConstant, constantsOf, some, saysSame};
-ghost use Rattle.model.specs.Reading.{typed, knownEqual, tagOf, knownTag, knownZero};
-ghost use Rattle.model.specs.Reading.{isRef, isMaybe, fits, rowFits, firstTag, referenceOf};
-ghost use Rattle.fits.specs.Numbers.{framesOf, valuesOf, tablesIn, valuesIn, depAt, siblingOf, namedOf, meant};
-ghost use Rattle.fits.specs.Numbers.{testedConstant, oneConstant, sharedConstant, tagOrBeyond, byRecord, byOwnTag, tagFits, placeFits};
+ghost use Rattle.model.specs.Reading.{birthplace, sameConstant, constantsOf, some, saysSame, typed, knownEqual, knownZero, isRef, isMaybe, fits};
+ghost use Rattle.model.specs.Reading.{rowFits, firstTag, referenceOf, constantHeld};
+ghost use Rattle.fits.specs.Numbers.{framesOf, valuesOf, tablesIn, valuesIn, ofValue, fitsIn, depAt, siblingOf, namedOf, meant};
+ghost use Rattle.fits.specs.Numbers.{testedConstant, oneConstant, sharedConstant, servesAsTag, refers, refersOf};
+ghost use Rattle.fits.specs.Numbers.{byRecord, byOwnTag, tagFits, placeFits};
 use model::Reference;
-
-// A byte as a word, and as a place of an array of 256.
-pub fn wide(x: u8) -> u32
-    ensures { λ r. ⌜ (r ≡ x) × (r < 256) ⌝ }
-{
-    x as u32
-}
-
-pub fn index(x: u8) -> usize
-    ensures { λ r. ⌜ (r ≡ x) × (r < 256) ⌝ }
-{
-    x as usize
-}
 
 // ---- dependencies
 
@@ -36,7 +24,7 @@ fn frame(frames: &[u8; 32], v: u32) -> u32
     requires { ⌜ v < 256 ⌝ }
     ensures { λ r. ⌜ (r ≡ getD (framesOf (now (frames .entry))) (birthplace v) 0) × (r ≤ 248) ⌝ }
 {
-    wide(frames[(v / 8) as usize]) % 32 * 8
+    word::wide(frames[(v / 8) as usize]) % 32 * 8
 }
 
 // The dependency byte x in a frame.
@@ -64,7 +52,7 @@ fn named(names: &[u8; 8], x: u32) -> u32
     ensures { λ r. ⌜ depAt r ≡ namedOf (now (names .entry)) x ⌝ }
 {
     if x < word::CONSTANTS {
-        return wide(names[x as usize]);
+        return word::wide(names[x as usize]);
     }
     x + 248
 }
@@ -73,7 +61,7 @@ fn named(names: &[u8; 8], x: u32) -> u32
 
 // The constant of a type word Same with a constant.
 fn same_constant(w: u32) -> u32
-    ensures { λ r. ⌜ ((σ : ℕ → ℕ) → held r ≡ sameConstant (rename σ (typeOf w))) ⌝ }
+    ensures { λ r. ⌜ ((σ : ℕ → ℕ) → constantHeld r ≡ sameConstant (rename σ (typeOf w))) ⌝ }
 {
     if word::kind(w) != word::SAME {
         return 0;
@@ -88,7 +76,7 @@ fn same_constant(w: u32) -> u32
 // The known constant of x where nothing was tested, 0 for none: opcode 1's for a value of type Any, that of Same for another. The
 // frames are lent for the contract, which speaks of the values that the three arrays make.
 fn constant_of(words: &[u32; 256], frames: &[u8; 32], constants: &[u32; 32], x: u32) -> u32
-    ensures { λ r. ⌜ held r ≡ constantsOf (valuesIn words frames constants 0 0) (depAt x) ⌝ }
+    ensures { λ r. ⌜ constantHeld r ≡ constantsOf (valuesIn words frames constants 0 0) (depAt x) ⌝ }
 {
     if 256 <= x {
         return x - 255;
@@ -209,35 +197,21 @@ pub fn known_equal(
 
 // ---- tags
 
-// Whether the constant that n holds is a tag of t.
-fn is_tag(tags: &[u32], n: u32, t: u32) -> bool
-    ensures { λ r. ⌜ ((types : List ℕ) → r ≡ some (tagOf (tablesIn types tags) t) (held n)) ⌝ }
+// Whether the constant that n holds is a tag of t; with beyond, one beyond the table serves too.
+fn is_tag(tags: &[u32], n: u32, t: u32, beyond: bool) -> bool
+    ensures { λ r. ⌜ ((types : List ℕ) → r ≡ some (servesAsTag beyond (tablesIn types tags) t) (constantHeld n)) ⌝ }
 {
     if n == 0 {
         return false;
     }
     let k = (n - 1) as usize;
     if tags.len() <= k {
-        return false;
+        return beyond;
     }
     tags[k] == t
 }
 
-// Whether it is a tag of t or beyond the table.
-fn is_tag_or_beyond(tags: &[u32], n: u32, t: u32) -> bool
-    ensures { λ r. ⌜ ((types : List ℕ) → r ≡ some (tagOrBeyond (tablesIn types tags) t) (held n)) ⌝ }
-{
-    if n == 0 {
-        return false;
-    }
-    let k = (n - 1) as usize;
-    if tags.len() <= k {
-        return true;
-    }
-    tags[k] == t
-}
-
-// Whether x is a known tag of t.
+// Whether x has a known constant that is a tag of t; with beyond, one beyond the table serves too.
 fn known_tag(
     tags: &[u32],
     words: &[u32; 256],
@@ -247,36 +221,16 @@ fn known_tag(
     equal: u32,
     x: u32,
     t: u32,
+    beyond: bool,
 ) -> bool
     ensures { λ r. ⌜ ((types : List ℕ)
-        → r ≡ knownTag (tablesIn types tags) (valuesIn words frames constants tested equal) t (depAt x)) ⌝ }
+        → r ≡ some (servesAsTag beyond (tablesIn types tags) t) (constantsOf (valuesIn words frames constants tested equal) (depAt x))) ⌝ }
 {
     let k = constant_of(words, frames, constants, x);
-    if is_tag(tags, k, t) {
+    if is_tag(tags, k, t, beyond) {
         return true;
     }
-    is_tag(tags, tested_constant(tested, equal, x), t)
-}
-
-// Whether x has a known constant that is a tag of t or beyond the table.
-fn known_tag_or_beyond(
-    tags: &[u32],
-    words: &[u32; 256],
-    frames: &[u8; 32],
-    constants: &[u32; 32],
-    tested: u32,
-    equal: u32,
-    x: u32,
-    t: u32,
-) -> bool
-    ensures { λ r. ⌜ ((types : List ℕ)
-        → r ≡ some (tagOrBeyond (tablesIn types tags) t) (constantsOf (valuesIn words frames constants tested equal) (depAt x))) ⌝ }
-{
-    let k = constant_of(words, frames, constants, x);
-    if is_tag_or_beyond(tags, k, t) {
-        return true;
-    }
-    is_tag_or_beyond(tags, tested_constant(tested, equal, x), t)
+    is_tag(tags, tested_constant(tested, equal, x), t, beyond)
 }
 
 // Whether the value v is known 0.
@@ -300,6 +254,31 @@ fn known_zero(
 
 // ---- fits
 
+// What makes a value a reference: its record type, where it is Ref or In; its dependency, where it is Present; or nothing.
+enum Referred {
+    Record(u32),
+    Tag(u32),
+    Neither,
+}
+
+fn refers_by(words: &[u32; 256], frames: &[u8; 32], v: u8) -> Referred
+    ensures { λ r. ⌜ ((constants : List ℕ) (tested equal : ℕ)
+        → refersOf r ≡ refers (typed (valuesOf (now (words .entry)) (now (frames .entry)) constants tested equal) v)) ⌝ }
+{
+    let w = words[v as usize];
+    let kind = word::kind(w);
+    if kind == word::REF {
+        return Referred::Record(word::record_type(w));
+    }
+    if kind == word::IN {
+        return Referred::Record(word::record_type(w));
+    }
+    if kind != word::PRESENT {
+        return Referred::Neither;
+    }
+    Referred::Tag(dependency(frames, v as u32, word::first_dependency(w)))
+}
+
 // Whether the value v is Ref t, In t, or Present whose dependency is a known tag of t.
 fn is_ref(
     tags: &[u32],
@@ -311,22 +290,14 @@ fn is_ref(
     v: u8,
     t: u32,
 ) -> bool
-    ensures { λ r. ⌜ ((types : List ℕ) → r ≡ isRef (tablesIn types tags) (valuesIn words frames constants tested equal) t
-        (typed (valuesIn words frames constants tested equal) v)) ⌝ }
+    ensures { λ r. ⌜ ((types : List ℕ) → r ≡ ofValue (λ 𝒯 vs. isRef 𝒯 vs t) types tags words frames constants tested equal v) ⌝ }
 {
-    let w = words[v as usize];
-    let kind = word::kind(w);
-    if kind == word::REF {
-        return word::record_type(w) == t;
+    let by = refers_by(words, frames, v);
+    match by {
+        Referred::Record(u) => u == t,
+        Referred::Tag(x) => known_tag(tags, words, frames, constants, tested, equal, x, t, false),
+        Referred::Neither => false,
     }
-    if kind == word::IN {
-        return word::record_type(w) == t;
-    }
-    if kind != word::PRESENT {
-        return false;
-    }
-    let x = dependency(frames, v as u32, word::first_dependency(w));
-    known_tag(tags, words, frames, constants, tested, equal, x, t)
 }
 
 // Whether the value v is Maybe t, or Tagged with a tag of t or beyond the table.
@@ -340,8 +311,7 @@ fn is_maybe(
     v: u8,
     t: u32,
 ) -> bool
-    ensures { λ r. ⌜ ((types : List ℕ) → r ≡ isMaybe (tablesIn types tags) (valuesIn words frames constants tested equal) t
-        (typed (valuesIn words frames constants tested equal) v)) ⌝ }
+    ensures { λ r. ⌜ ((types : List ℕ) → r ≡ ofValue (λ 𝒯 vs. isMaybe 𝒯 vs t) types tags words frames constants tested equal v) ⌝ }
 {
     let w = words[v as usize];
     let kind = word::kind(w);
@@ -352,7 +322,7 @@ fn is_maybe(
         return false;
     }
     let x = dependency(frames, v as u32, word::first_dependency(w));
-    known_tag_or_beyond(tags, words, frames, constants, tested, equal, x, t)
+    known_tag(tags, words, frames, constants, tested, equal, x, t, true)
 }
 
 // Whether the value v fits the type word w, which is Run, From or In.
@@ -366,7 +336,7 @@ fn is_span(
     w: u32,
     names: &[u8; 8],
 ) -> bool
-    requires { ⌜ 6 ≤ w / 16777216 ⌝ }
+    requires { ⌜ 6 ≤ kindOf w ⌝ }
     ensures { λ r. ⌜ ((types tags : List ℕ)
         → r ≡ fits (tablesOf types tags) (valuesIn words frames constants tested equal) v (meant (now (names .entry)) w)) ⌝ }
 {
@@ -400,9 +370,8 @@ fn fits_pointer(
     w: u32,
     names: &[u8; 8],
 ) -> bool
-    requires { ⌜ (1 ≤ w / 16777216) × (w / 16777216 ≤ 2) ⌝ }
-    ensures { λ r. ⌜ ((types : List ℕ)
-        → r ≡ fits (tablesIn types tags) (valuesIn words frames constants tested equal) v (meant (now (names .entry)) w)) ⌝ }
+    requires { ⌜ (1 ≤ kindOf w) × (kindOf w ≤ 2) ⌝ }
+    ensures { λ r. ⌜ ((types : List ℕ) → r ≡ fitsIn types tags words frames constants tested equal v w names) ⌝ }
 {
     let t = word::record_type(w);
     if is_ref(tags, words, frames, constants, tested, equal, v, t) {
@@ -458,14 +427,14 @@ fn tag_fits(
     y: u32,
     present: bool,
 ) -> bool
-    ensures { λ r. ⌜ ((types : List ℕ) → r ≡ tagFits (tablesIn types tags) (valuesIn words frames constants tested equal) present (depAt y)
-        (typed (valuesIn words frames constants tested equal) v)) ⌝ }
+    ensures { λ r. ⌜ ((types : List ℕ)
+        → r ≡ ofValue (λ 𝒯 vs. tagFits 𝒯 vs present (depAt y)) types tags words frames constants tested equal v) ⌝ }
 {
     let own = words[v as usize];
     let kind = word::kind(own);
     if by_record(kind, present) {
         let t = word::record_type(own);
-        return known_tag(tags, words, frames, constants, tested, equal, y, t);
+        return known_tag(tags, words, frames, constants, tested, equal, y, t, false);
     }
     if !by_own_tag(kind, present) {
         return false;
@@ -486,9 +455,8 @@ fn fits_tagged(
     w: u32,
     names: &[u8; 8],
 ) -> bool
-    requires { ⌜ (3 ≤ w / 16777216) × (w / 16777216 ≤ 4) ⌝ }
-    ensures { λ r. ⌜ ((types : List ℕ)
-        → r ≡ fits (tablesIn types tags) (valuesIn words frames constants tested equal) v (meant (now (names .entry)) w)) ⌝ }
+    requires { ⌜ (3 ≤ kindOf w) × (kindOf w ≤ 4) ⌝ }
+    ensures { λ r. ⌜ ((types : List ℕ) → r ≡ fitsIn types tags words frames constants tested equal v w names) ⌝ }
 {
     let y = named(names, word::first_dependency(w));
     let present = word::kind(w) == word::PRESENT;
@@ -513,8 +481,7 @@ fn value_fits(
     w: u32,
     names: &[u8; 8],
 ) -> bool
-    ensures { λ r. ⌜ ((types : List ℕ)
-        → r ≡ fits (tablesIn types tags) (valuesIn words frames constants tested equal) v (meant (now (names .entry)) w)) ⌝ }
+    ensures { λ r. ⌜ ((types : List ℕ) → r ≡ fitsIn types tags words frames constants tested equal v w names) ⌝ }
 {
     let kind = word::kind(w);
     if kind == word::ANY {
@@ -607,7 +574,7 @@ fn is_listed(tags: &[u32], n: u32) -> bool
 
 // The type of the first of the two constants that is a tag.
 fn first_tag(tags: &[u32], k: u32, l: u32) -> Reference
-    ensures { λ r. ⌜ ((types : List ℕ) → r ≡ firstTag (tablesIn types tags) (held k ++ held l)) ⌝ }
+    ensures { λ r. ⌜ ((types : List ℕ) → r ≡ firstTag (tablesIn types tags) (constantHeld k ++ constantHeld l)) ⌝ }
 {
     if is_listed(tags, k) {
         let i = (k - 1) as usize;
@@ -632,21 +599,15 @@ pub fn reference(
     equal: u32,
     v: u8,
 ) -> Reference
-    ensures { λ r. ⌜ ((types : List ℕ) → r ≡ referenceOf (tablesIn types tags) (valuesIn words frames constants tested equal)
-        (typed (valuesIn words frames constants tested equal) v)) ⌝ }
+    ensures { λ r. ⌜ ((types : List ℕ) → r ≡ ofValue referenceOf types tags words frames constants tested equal v) ⌝ }
 {
-    let w = words[v as usize];
-    let kind = word::kind(w);
-    if kind == word::REF {
-        return Reference::To(word::record_type(w));
+    let by = refers_by(words, frames, v);
+    match by {
+        Referred::Record(t) => Reference::To(t),
+        Referred::Tag(x) => {
+            let k = constant_of(words, frames, constants, x);
+            first_tag(tags, k, tested_constant(tested, equal, x))
+        }
+        Referred::Neither => Reference::Nothing,
     }
-    if kind == word::IN {
-        return Reference::To(word::record_type(w));
-    }
-    if kind != word::PRESENT {
-        return Reference::Nothing;
-    }
-    let x = dependency(frames, v as u32, word::first_dependency(w));
-    let k = constant_of(words, frames, constants, x);
-    first_tag(tags, k, tested_constant(tested, equal, x))
 }

@@ -121,7 +121,8 @@ module _ (w : ℕ) where
       → (bitAnd (aOf w) x ≡ 0) × (bitAnd (bOf w) y ≡ 0) × (bitAnd (cOf w) z ≡ 0)
   parts-of x y z hx hy hz r e = cleared w x y z hx hy hz (rw r at e)
 
-  both-in : (z : ℕ) → z < 65536 → getD opcodeRows (opcodeOf w) 0 ≡ bits 8 8 z → bitAnd w (getD opcodeRows (opcodeOf w) 0) ≡ 0 → (aOf w < 8) × (bOf w < 8) × (bitAnd (cOf w) z ≡ 0)
+  both-in : (z : ℕ) → z < 65536 → getD opcodeRows (opcodeOf w) 0 ≡ bits 8 8 z → bitAnd w (getD opcodeRows (opcodeOf w) 0) ≡ 0
+      → (aOf w < 8) × (bOf w < 8) × (bitAnd (cOf w) z ≡ 0)
   both-in z h r e =
       let (x, y, k) = parts-of 8 8 z (omega arith) (omega arith) h r e in
       (clear-register (aOf w) a-in x, clear-register (bOf w) b-in y, k)

@@ -12,7 +12,7 @@ use Rattle.model.specs.Word.{opcodeOf, aOf, bOf, cOf}
 use Rattle.model.specs.Machine.{constant, copy, add, subtract, multiply, divide, move, load, store, halt, jump, ifEqual, ifLess, Instruction, plain}
 use Rattle.model.specs.Machine.{end, malformed, register, unused, nonzero, formed, byOpcode, decode, hasForm, wellFormed}
 use Rattle.model.proofs.Logic.{byTest, and-true}
-use Rattle.model.proofs.Lists.{getD-past}
+use Rattle.model.proofs.Lists.{getD-past, Each, none, more, each-at}
 
 -- ---- the row of an opcode
 
@@ -101,22 +101,17 @@ decoded w t x h e q = let s : t ≡ true = sym (well w t x h e) ∙ q in e ∙ r
 
 -- ---- registers of a well-formed word
 
-data AllRows (a b : ℕ) : List Instruction → Type 0 where
-  none : AllRows a b []
-  more : {x : Instruction} {xs : List Instruction} → (hasForm x ≡ true → (a < 8) × (b < 8)) → AllRows a b xs → AllRows a b (x ∷ xs)
+-- a row with a form names registers by its parts a and b
+abbrev Numbers : ℕ → ℕ → Instruction → Type 0
+Numbers a b x = hasForm x ≡ true → (a < 8) × (b < 8)
 
-row-at : (a b : ℕ) (xs : List Instruction) (i : ℕ) → AllRows a b xs → hasForm (getD xs i malformed) ≡ true → (a < 8) × (b < 8)
-row-at a b [] i none q = absurd (false≢true q)
-row-at a b (x ∷ xs) zero (more f fs) q = f q
-row-at a b (x ∷ xs) (suc i) (more f fs) q = row-at a b xs i fs q
-
-by-test : (a b : ℕ) (t : Bool) (x : Instruction) → hasForm x ≡ true → (t ≡ true → (a < 8) × (b < 8)) → hasForm (formed t x) ≡ true → (a < 8) × (b < 8)
+by-test : (a b : ℕ) (t : Bool) (x : Instruction) → hasForm x ≡ true → (t ≡ true → (a < 8) × (b < 8)) → Numbers a b (formed t x)
 by-test a b t x h f q = f (sym (has-form t x h) ∙ q)
 
 zero-register : (x : ℕ) → unused x ≡ true → x < 8
 zero-register x q = let z : x ≡ 0 = eqb-true x 0 q in omega arith
 
-rows-hold : (a b c : ℕ) → AllRows a b (byOpcode a b c)
+rows-hold : (a b c : ℕ) → Each (Numbers a b) (byOpcode a b c)
 unfolding byOpcode
 rows-hold a b c =
     more (by-test a b _ (end halt) refl (λ q. let (x, y) = and-true _ _ q in (zero-register a x, zero-register b (and-true _ _ y .0))))
@@ -142,9 +137,12 @@ rows-hold a b c =
 -- the parts a and b of a well-formed word number registers
 pub registers : (w : ℕ) → wellFormed w ≡ true → (aOf w < 8) × (bOf w < 8)
 unfolding wellFormed decode
-registers w q = row-at (aOf w) (bOf w) (byOpcode (aOf w) (bOf w) (cOf w)) (opcodeOf w) (rows-hold (aOf w) (bOf w) (cOf w)) q
+registers w q =
+    each-at malformed (λ z. absurd (false≢true z)) (byOpcode (aOf w) (bOf w) (cOf w)) (opcodeOf w) (rows-hold (aOf w) (bOf w) (cOf w)) q
 
 -- a well-formed word has one of the thirteen opcodes
 pub known : (w : ℕ) → wellFormed w ≡ true → opcodeOf w ≤ 12
 unfolding wellFormed
-known w q = byTest (ltb 12 (opcodeOf w)) (λ h. absurd (false≢true (sym (ap hasForm (row-past w (ltb-true 12 (opcodeOf w) h))) ∙ q))) (λ h. ltb-false 12 (opcodeOf w) h)
+known w q =
+    byTest (ltb 12 (opcodeOf w)) (λ h. absurd (false≢true (sym (ap hasForm (row-past w (ltb-true 12 (opcodeOf w) h))) ∙ q)))
+    (λ h. ltb-false 12 (opcodeOf w) h)

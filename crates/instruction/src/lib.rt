@@ -1,10 +1,12 @@
 // The form of an instruction word: Q7, Q8 and Q9, asked alike by the check and by a run.
 ghost use mathlib.Core.Path.{_≡_};
 ghost use mathlib.Core.Bool.{true};
-ghost use Prim.Native.Nat.{_/_, _<_};
-ghost use Rattle.model.specs.Machine.{decode, wellFormed};
+ghost use Prim.Native.Nat.{_<_};
+ghost use Rattle.model.specs.Word.{opcodeOf};
+ghost use Rattle.model.specs.Machine.{decode, wellFormed, targetsExist};
 ghost use Rattle.instruction.specs.Rows.{opcodeRows};
-ghost use Rattle.instruction.specs.Form.{leadsOn, formNo};
+ghost use Rattle.instruction.specs.Form.{formNo, endOf, targetOf};
+use model::number;
 
 // The opcodes, told apart by these names in the check and in a run.
 pub const HALT: u32 = 0;
@@ -78,8 +80,8 @@ pub fn well_formed(rows: &[u32; 13], w: u32) -> bool
 
 // Q9 of a word whose opcode is 10, 11 or 12.
 pub fn targets_exist(w: u32, b: u32, count: u32) -> bool
-    requires { ⌜ (b < 4294967295) × (9 < w / 16777216) × (wellFormed w ≡ true) ⌝ }
-    ensures { λ r. ⌜ r ≡ leadsOn (decode w) b count ⌝ }
+    requires { ⌜ (b < 4294967295) × (9 < opcodeOf w) × (wellFormed w ≡ true) ⌝ }
+    ensures { λ r. ⌜ r ≡ targetsExist count b (endOf w) ⌝ }
 {
     let op = w / 16777216;
     let c = w % 65536;
@@ -95,32 +97,44 @@ pub fn targets_exist(w: u32, b: u32, count: u32) -> bool
     c < count
 }
 
+// The block of the taken edge of a well-formed word that ends a block, 0 for a halt.
+pub fn target(w: u32) -> u32
+    requires { ⌜ (wellFormed w ≡ true) × (0 < opcodeOf w → 9 < opcodeOf w) ⌝ }
+    ensures { λ r. ⌜ r ≡ targetOf (endOf w) ⌝ }
+{
+    let c = w % 65536;
+    if w / 16777216 == IF_EQUAL {
+        return c % 256;
+    }
+    c
+}
+
 // The first no of Q7, Q8 and Q9 at an instruction of block b, as a number; last: it is the block's last.
 pub fn form(rows: &[u32; 13], w: u32, last: bool, b: u32, count: u32) -> u32
     requires { ⌜ (now rows ≡ opcodeRows) × (b < 4294967295) ⌝ }
     ensures { λ r. ⌜ r ≡ formNo (decode w) last b count ⌝ }
 {
     if !well_formed(rows, w) {
-        return 7;
+        return number::INSTRUCTION;
     }
     let op = w / 16777216;
     if op == HALT {
         if last {
-            return 0;
+            return number::PASSED;
         }
-        return 8;
+        return number::BLOCK_END;
     }
     if op < JUMP {
         if last {
-            return 8;
+            return number::BLOCK_END;
         }
-        return 0;
+        return number::PASSED;
     }
     if !last {
-        return 8;
+        return number::BLOCK_END;
     }
     if !targets_exist(w, b, count) {
-        return 9;
+        return number::TARGET;
     }
-    0
+    number::PASSED
 }

@@ -4,39 +4,26 @@ ghost use mathlib.Core.List.{List};
 ghost use Prim.Native.Nat.{ℕ, _+_, _*_, _%_, _≤_, _<_};
 ghost use lib.ListN.{length, getD};
 ghost use Rattle.model.specs.Question.{verdictOf};
-ghost use Rattle.model.specs.Table.{tablesOf};
+ghost use Rattle.model.specs.Table.{tablesOf, memoryLengthAsk};
 ghost use Rattle.model.specs.Allocation.{laid, rowsAsk, allocationsAsk};
-ghost use Rattle.model.specs.Machine.{memoryLengthAsk};
 ghost use Rattle.model.specs.MemoryCheck.{layoutAsk};
 use model::Verdict;
+use model::limit;
+use model::number;
 use table::answer;
 
-// Words of an allocation row: start and record type.
-pub const ALLOCATION_WORDS: usize = 2;
-
-// Memory has from one word to this many.
-pub const MOST_MEMORY: usize = 16384;
-
 // The most words that the allocation rows may have.
-const MOST_ALLOCATIONS: usize = 8192;
-
-// No record starts at address 0.
-const FIRST_START: usize = 1;
-
-// The numbers of the questions.
-const MEMORY_LENGTH: u32 = 17;
-
-const ALLOCATION: u32 = 19;
+const MOST_WORDS: usize = limit::ALLOCATIONS * limit::ALLOCATION_WORDS;
 
 // Q17.
 pub fn memory_length(n: usize) -> Verdict
     ensures { λ r. ⌜ r ≡ verdictOf (memoryLengthAsk n) ⌝ }
 {
     if n < 1 {
-        return answer::refused(MEMORY_LENGTH, 0);
+        return answer::refused(number::MEMORY_LENGTH, 0);
     }
-    if MOST_MEMORY < n {
-        return answer::refused(MEMORY_LENGTH, 0);
+    if limit::MEMORY < n {
+        return answer::refused(number::MEMORY_LENGTH, 0);
     }
     answer::passed()
 }
@@ -46,7 +33,7 @@ pub fn start(allocations: &[u32], k: usize) -> u32
     requires { ⌜ k * 2 + 1 < length (now allocations) ⌝ }
     ensures { λ r. ⌜ r ≡ getD (now (allocations .entry)) (k * 2) 0 ⌝ }
 {
-    allocations[k * ALLOCATION_WORDS]
+    allocations[k * limit::ALLOCATION_WORDS]
 }
 
 // The record type of allocation row k.
@@ -54,14 +41,14 @@ pub fn record_type(allocations: &[u32], k: usize) -> u32
     requires { ⌜ k * 2 + 1 < length (now allocations) ⌝ }
     ensures { λ r. ⌜ r ≡ getD (now (allocations .entry)) (k * 2 + 1) 0 ⌝ }
 {
-    allocations[k * ALLOCATION_WORDS + 1]
+    allocations[k * limit::ALLOCATION_WORDS + 1]
 }
 
 // Whether the record of type t at p is at or above low, and with all its words below top.
 fn is_laid(types: &[u32], top: usize, low: usize, p: u32, t: u32) -> bool
     ensures { λ r. ⌜ ((tags : List ℕ) → r ≡ laid (tablesOf (now (types .entry)) tags) top low p t) ⌝ }
 {
-    if types.len() / table::ROW_WORDS <= (t as usize) {
+    if types.len() / limit::ROW_WORDS <= (t as usize) {
         return false;
     }
     let start = p as usize;
@@ -77,14 +64,14 @@ fn rows(types: &[u32], allocations: &[u32], top: usize) -> Verdict
     requires { ⌜ (length (now allocations) % 2 ≡ 0) × (length (now allocations) ≤ 8192) ⌝ }
     ensures { λ r. ⌜ ((tags : List ℕ) → r ≡ verdictOf (rowsAsk (tablesOf (now (types .entry)) tags) top (now (allocations .entry)) 0 1)) ⌝ }
 {
-    let count = allocations.len() / ALLOCATION_WORDS;
-    let mut low = FIRST_START;
+    let count = allocations.len() / limit::ALLOCATION_WORDS;
+    let mut low = limit::FIRST_START;
     let mut k = 0;
     while k < count {
         let p = start(allocations, k);
         let t = record_type(allocations, k);
         if !is_laid(types, top, low, p, t) {
-            return answer::refused(ALLOCATION, k);
+            return answer::refused(number::ALLOCATION, k);
         }
         low = (p as usize) + (table::head(types, t as usize) as usize);
         k += 1;
@@ -96,11 +83,11 @@ fn rows(types: &[u32], allocations: &[u32], top: usize) -> Verdict
 fn allocations(types: &[u32], allocations: &[u32], top: usize) -> Verdict
     ensures { λ r. ⌜ ((tags : List ℕ) → r ≡ verdictOf (allocationsAsk (tablesOf (now (types .entry)) tags) top (now (allocations .entry)))) ⌝ }
 {
-    if allocations.len() % ALLOCATION_WORDS != 0 {
-        return answer::refused(ALLOCATION, 0);
+    if allocations.len() % limit::ALLOCATION_WORDS != 0 {
+        return answer::refused(number::ALLOCATION, 0);
     }
-    if MOST_ALLOCATIONS < allocations.len() {
-        return answer::refused(ALLOCATION, 0);
+    if MOST_WORDS < allocations.len() {
+        return answer::refused(number::ALLOCATION, 0);
     }
     rows(types, allocations, top)
 }
@@ -110,15 +97,15 @@ pub fn layout(types: &[u32], tags: &[u32], allocations: &[u32], top: usize) -> V
     ensures { λ r. ⌜ r ≡ verdictOf (layoutAsk (now (types .entry)) (now (tags .entry)) (now (allocations .entry)) top) ⌝ }
 {
     let lengths = table::type_lengths(types.len(), tags.len());
-    if lengths.number != 0 {
+    if lengths.number != number::PASSED {
         return lengths;
     }
     let made = table::types(types, tags);
-    if made.number != 0 {
+    if made.number != number::PASSED {
         return made;
     }
     let memory = memory_length(top);
-    if memory.number != 0 {
+    if memory.number != number::PASSED {
         return memory;
     }
     self::allocations(types, allocations, top)

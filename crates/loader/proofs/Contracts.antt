@@ -10,6 +10,8 @@ use denote.Triple.Clauses.{Lasts, atExit}
 use denote.Triple.Entry.{Args}
 use Rattle.model.specs.declared.Verdict.{Verdict}
 use Rattle.model.specs.declared.RunAnswer.{RunAnswer}
+use Rattle.model.specs.Table.{codeOf}
+use Rattle.model.specs.Machine.{ready}
 use Rattle.loader.specs.Delivery.{CheckGave, MemoryCheckGave, EntryCheckGave, RunGave}
 use Rattle.loader.proofs.check
 use Rattle.loader.proofs.check.Reads as check-read
@@ -32,7 +34,7 @@ module _ (κs : Lfts 4) (types tags blocks code : Lent) where
   check-asks = refl
 
   pub check-gives : (v : Verdict) (last : Lasts check.ended κs to-check)
-      → check-read.Learnt κs to-check v (atExit check.ended κs to-check last) ↔ CheckGave (now types) (now tags) (now blocks) (now code) v
+      → check-read.Learnt κs to-check v (atExit check.ended κs to-check last) ↔ CheckGave (now types) (now tags) (codeOf (now blocks) (now code)) v
   check-gives v last = (λ l. l, λ g. g)
 
   pub check-lent : (last : Lasts check.ended κs to-check) → atExit check.ended κs to-check last ≡ to-check
@@ -62,7 +64,8 @@ module _ (κs : Lfts 6) (types tags allocations memory blocks code : Lent) (b : 
 
   pub entry-check-gives : (v : Verdict) (last : Lasts entry_check.ended κs to-entry-check)
       → entry-check-read.Learnt κs to-entry-check v (atExit entry_check.ended κs to-entry-check last)
-      ↔ EntryCheckGave (now types) (now tags) (now allocations) (now memory) (now blocks) (now code) b r v (now (atExit entry_check.ended κs to-entry-check last .1 .1 .1 .0))
+      ↔ EntryCheckGave (now types) (now tags) (now allocations) (now memory) (codeOf (now blocks) (now code)) (ready b r) v
+      (now (atExit entry_check.ended κs to-entry-check last .1 .1 .1 .0))
   entry-check-gives v last = (λ l. (l, refl), λ g. g .0)
 
   pub entry-check-lent : (last : Lasts entry_check.ended κs to-entry-check) → atExit entry_check.ended κs to-entry-check last ≡ to-entry-check
@@ -76,7 +79,8 @@ module _ (κs : Lfts 3) (blocks code memory : Lent) (b : ℕ) (r : List ℕ) (bu
   run-asks = refl
 
   pub run-gives : (a : RunAnswer) (last : Lasts run.ended κs to-run)
-      → run-read.Learnt κs to-run a (atExit run.ended κs to-run last) ↔ RunGave (now blocks) (now code) (now memory) b r budget a (now (atExit run.ended κs to-run last .1 .1 .0))
+      → run-read.Learnt κs to-run a (atExit run.ended κs to-run last)
+      ↔ RunGave (codeOf (now blocks) (now code)) (now memory) (ready b r) budget a (now (atExit run.ended κs to-run last .1 .1 .0))
   run-gives a last = (λ l. l, λ g. g)
 
   pub run-lent : (last : Lasts run.ended κs to-run) → (atExit run.ended κs to-run last .0 ≡ blocks) × (atExit run.ended κs to-run last .1 .0 ≡ code)

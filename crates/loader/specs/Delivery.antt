@@ -9,27 +9,26 @@ use lib.ListN.{length}
 use Rattle.model.specs.declared.Verdict.{Verdict}
 use Rattle.model.specs.declared.RunAnswer.{RunAnswer}
 use Rattle.model.specs.Question.{_or_}
-use Rattle.model.specs.Machine.{State, run, returned}
+use Rattle.model.specs.Table.{Code}
+use Rattle.model.specs.Machine.{State, run, returned, Ready, ready}
 use Rattle.model.specs.Check.{check}
 use Rattle.model.specs.MemoryCheck.{memoryCheck, entryCheck}
-use Rattle.model.specs.Turns.{Ready, ready, Task, waiting, World, running, settled, standingBy, atStart, Allowed}
-use Rattle.model.specs.Safety.{Fit, Visits, TurnSafe}
+use Rattle.model.specs.Turns.{Task, waiting, World, running, settled, standingBy, atStart, Allowed}
+use Rattle.model.specs.Safety.{AllFit, Visits, TurnSafe}
 
 -- What a call gave back for what it was handed, and what it left of the memory that it was lent: the contracts of src/lib.rt, as
 -- proofs/Contracts.antt shows.
-abbrev pub CheckGave : (types tags blocks code : List ℕ) → Verdict → Type 0
-CheckGave types tags blocks code v = v ≡ check types tags blocks code
+abbrev pub CheckGave : (types tags : List ℕ) → Code → Verdict → Type 0
+CheckGave types tags C v = v ≡ check types tags C
 
 abbrev pub MemoryCheckGave : (types tags allocations memory : List ℕ) → Verdict → (left : List ℕ) → Type 0
 MemoryCheckGave types tags allocations memory v left = (v ≡ memoryCheck types tags allocations memory) × (left ≡ memory)
 
-abbrev pub EntryCheckGave : (types tags allocations memory blocks code : List ℕ) (b : ℕ) (r : List ℕ) → Verdict → (left : List ℕ) → Type 0
-EntryCheckGave types tags allocations memory blocks code b r v left =
-    (v ≡ entryCheck types tags allocations memory blocks code b r) × (left ≡ memory)
+abbrev pub EntryCheckGave : (types tags allocations memory : List ℕ) → Code → Ready → Verdict → (left : List ℕ) → Type 0
+EntryCheckGave types tags allocations memory C g v left = (v ≡ entryCheck types tags allocations memory C g) × (left ≡ memory)
 
-abbrev pub RunGave : (blocks code memory : List ℕ) (b : ℕ) (r : List ℕ) (budget : ℕ) → RunAnswer → (left : List ℕ) → Type 0
-RunGave blocks code memory b r budget a left =
-    (a ≡ returned (run blocks code memory b r budget)) × (left ≡ run blocks code memory b r budget .memory)
+abbrev pub RunGave : Code → (memory : List ℕ) → Ready → (budget : ℕ) → RunAnswer → (left : List ℕ) → Type 0
+RunGave C memory g budget a left = (a ≡ returned (run C memory g budget)) × (left ≡ run C memory g budget .memory)
 
 abbrev pub with : World → List ℕ → World
 with w left = record { memory = left; standing = w .standing }
@@ -38,32 +37,31 @@ module _ (types tags allocations memory : List ℕ) (n : ℕ) (tasks : ℕ → T
   -- The checks gave 0: of memory, of each routine, and of its eight registers over some memory with these allocations.
   pub record Passed : Type 0 where
     pub memoryPassed : (v : Verdict) × (left : List ℕ) × MemoryCheckGave types tags allocations memory v left × (v .number ≡ 0)
-    pub accepted : (i : ℕ) → i < n → (v : Verdict) × CheckGave types tags (tasks i .blocks) (tasks i .code) v × (v .number ≡ 0)
+    pub accepted : (i : ℕ) → i < n → (v : Verdict) × CheckGave types tags (tasks i .code) v × (v .number ≡ 0)
     pub eight : (i : ℕ) → i < n → length (tasks i .start .registers) ≡ 8
     pub entered : (i : ℕ) → i < n → (m : List ℕ) × (v : Verdict) × (left : List ℕ)
-        × EntryCheckGave types tags allocations m (tasks i .blocks) (tasks i .code) (tasks i .start .block) (tasks i .start .registers) v left
-        × (v .number ≡ 0)
+        × EntryCheckGave types tags allocations m (tasks i .code) (tasks i .start) v left × (v .number ≡ 0)
 
   -- Lists of calls, and the world that each leads to. Every call is handed memory as the one before left it, and a turn its routine as
   -- it stands; a check goes over any tables. A call over another memory leads nowhere else; the turn of a halted routine is no call.
   pub data Calls : World → Type 0 where
     none : Calls (atStart tasks n memory)
-    checked : {w : World} (types' tags' blocks code : List ℕ) (v : Verdict) → Calls w → CheckGave types' tags' blocks code v → Calls w
+    checked : {w : World} (types' tags' : List ℕ) (C : Code) (v : Verdict) → Calls w → CheckGave types' tags' C v → Calls w
     memoryChecked : {w : World} (types' tags' allocations' : List ℕ) (v : Verdict) (left : List ℕ) → Calls w
         → MemoryCheckGave types' tags' allocations' (w .memory) v left → Calls (with w left)
-    entryChecked : {w : World} (types' tags' allocations' blocks code : List ℕ) (b : ℕ) (r : List ℕ) (v : Verdict) (left : List ℕ) → Calls w
-        → EntryCheckGave types' tags' allocations' (w .memory) blocks code b r v left → Calls (with w left)
+    entryChecked : {w : World} (types' tags' allocations' : List ℕ) (C : Code) (g : Ready) (v : Verdict) (left : List ℕ) → Calls w
+        → EntryCheckGave types' tags' allocations' (w .memory) C g v left → Calls (with w left)
     turned : {w : World} (i budget : ℕ) (g : Ready) (a : RunAnswer) (left : List ℕ) → Calls w → w .standing i ≡ waiting g
-        → RunGave (tasks i .blocks) (tasks i .code) (w .memory) (g .block) (g .registers) budget a left → Calls (settled w i left (standingBy a))
-    ran : {w : World} (blocks code : List ℕ) (b : ℕ) (r : List ℕ) (budget : ℕ) (a : RunAnswer) (left : List ℕ) → Calls w
-        → Allowed (running blocks code b r budget) w → RunGave blocks code (w .memory) b r budget a left → Calls (with w left)
+        → RunGave (tasks i .code) (w .memory) g budget a left → Calls (settled w i left (standingBy a))
+    ran : {w : World} (C : Code) (g : Ready) (budget : ℕ) (a : RunAnswer) (left : List ℕ) → Calls w
+        → Allowed (running C g budget) w → RunGave C (w .memory) g budget a left → Calls (with w left)
 
   -- Everything fits, and both checks, asked again, give 0.
   pub record Holds (w : World) : Type 0 where
-    pub fit : Fit types tags allocations memory n tasks w
+    pub fit : AllFit types tags allocations memory n tasks w
     pub memoryPasses : (v : Verdict) (left : List ℕ) → MemoryCheckGave types tags allocations (w .memory) v left → v .number ≡ 0
     pub entryPasses : (i : ℕ) (g : Ready) (v : Verdict) (left : List ℕ) → i < n → w .standing i ≡ waiting g
-        → EntryCheckGave types tags allocations (w .memory) (tasks i .blocks) (tasks i .code) (g .block) (g .registers) v left → v .number ≡ 0
+        → EntryCheckGave types tags allocations (w .memory) (tasks i .code) g v left → v .number ≡ 0
 
   -- A turn answers 0 or 40, is safe at every state that it passes through, and at every block end inside it all holds.
   pub record TurnHolds (w : World) (i budget : ℕ) (g : Ready) (a : RunAnswer) : Type 0 where
@@ -75,11 +73,11 @@ module _ (types tags allocations memory : List ℕ) (n : ℕ) (tasks : ℕ → T
   -- One claim about a whole list: all holds at the start and after each call, each turn is as above, and no other call changes anything.
   abbrev pub Delivers : {w : World} → Calls w → Type 0
   Delivers none = Holds (atStart tasks n memory)
-  Delivers (checked types' tags' blocks code v p g) = Delivers p
+  Delivers (checked types' tags' C v p g) = Delivers p
   Delivers (memoryChecked {w = w} types' tags' allocations' v left p g) = Delivers p × (with w left ≡ w) × Holds (with w left)
-  Delivers (entryChecked {w = w} types' tags' allocations' blocks code b r v left p g) = Delivers p × (with w left ≡ w) × Holds (with w left)
+  Delivers (entryChecked {w = w} types' tags' allocations' C g v left p q) = Delivers p × (with w left ≡ w) × Holds (with w left)
   Delivers (turned {w = w} i budget g a left p e q) = Delivers p × TurnHolds w i budget g a × Holds (settled w i left (standingBy a))
-  Delivers (ran {w = w} blocks code b r budget a left p o g) = Delivers p × (with w left ≡ w) × Holds (with w left)
+  Delivers (ran {w = w} C g budget a left p o q) = Delivers p × (with w left ≡ w) × Holds (with w left)
 
 unfoldable pub Delivered : Type 0
 Delivered =

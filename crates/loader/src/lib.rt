@@ -2,7 +2,8 @@
 // specs/Delivery.antt states demand 3 of them, with relations that proofs/Contracts.antt shows to be these contracts; proofs/Delivered.antt
 // proves it.
 ghost use mathlib.Core.Path.{_≡_};
-ghost use Rattle.model.specs.Machine.{run, returned};
+ghost use Rattle.model.specs.Table.{codeOf};
+ghost use Rattle.model.specs.Machine.{run, ready, returned};
 ghost use Rattle.model.specs.Check.{check};
 ghost use Rattle.model.specs.MemoryCheck.{memoryCheck, entryCheck};
 use model::RunAnswer;
@@ -10,7 +11,7 @@ use model::Verdict;
 
 // Whether a routine is accepted over a type and a tag table; else the number and place of the first question with a no.
 pub fn check(types: &[u32], tags: &[u32], blocks: &[u32], code: &[u32]) -> Verdict
-    ensures { λ r. ⌜ r ≡ check (now (types .entry)) (now (tags .entry)) (now (blocks .entry)) (now (code .entry)) ⌝ }
+    ensures { λ r. ⌜ r ≡ check (now (types .entry)) (now (tags .entry)) (codeOf (now (blocks .entry)) (now (code .entry))) ⌝ }
 {
     verify::check(types, tags, blocks, code)
 }
@@ -34,7 +35,7 @@ pub fn entry_check(
     registers: [u32; 8],
 ) -> Verdict
     ensures { λ r. ⌜ r ≡ entryCheck (now (types .entry)) (now (tags .entry)) (now (allocations .entry)) (now (memory .entry))
-        (now (blocks .entry)) (now (code .entry)) block registers ⌝ }
+        (codeOf (now (blocks .entry)) (now (code .entry))) (ready block registers) ⌝ }
 {
     memory::entry_check(
         types,
@@ -57,8 +58,8 @@ pub fn run(
     registers: [u32; 8],
     budget: u64,
 ) -> RunAnswer
-    ensures { λ r. ⌜ (r ≡ returned (run (now (blocks .entry)) (now (code .entry)) (now (memory .entry)) block registers budget))
-        × (now (memory .exit) ≡ run (now (blocks .entry)) (now (code .entry)) (now (memory .entry)) block registers budget .memory) ⌝ }
+    ensures { λ r. ⌜ (r ≡ returned (run (codeOf (now (blocks .entry)) (now (code .entry))) (now (memory .entry)) (ready block registers) budget))
+        × (now (memory .exit) ≡ run (codeOf (now (blocks .entry)) (now (code .entry))) (now (memory .entry)) (ready block registers) budget .memory) ⌝ }
 {
     machine::run(blocks, code, memory, block, registers, budget)
 }

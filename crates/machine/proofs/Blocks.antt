@@ -6,9 +6,9 @@ use native.Mathlib.Numerals.{add-one}
 use native.Mathlib.Omega.{arith}
 use lib.ListN.{length, getD}
 use borrow.Author.Tests.{lt-ltb, le-ltb, ne-eqb}
-use Rattle.model.specs.Question.{questionOf}
+use Rattle.model.specs.Question.{questionOf, provided}
 use Rattle.model.specs.Table.{Routine}
-use Rattle.model.specs.Machine.{decode, State, Step, goes, halts, faults, need, perform, step, onward, steps}
+use Rattle.model.specs.Machine.{decode, State, Step, goes, halts, faults, perform, step, onward, steps}
 use Rattle.table.proofs.Questions.{left}
 use Rattle.step.specs.declared.Exit.{Exit}
 use Rattle.step.specs.declared.Exit.the-variants.{No}
@@ -35,12 +35,12 @@ module _ (P : Routine) (part : List ℕ) (room b f : ℕ) (C : Covers P b part r
     -- past Q22
     performs : i < length part → i < room
         → steps P (length part - i) here ≡ onward (perform P (decode (getD part i 0)) here) (λ s'. steps P (length part - (i + 1)) s')
-    unfolding step need
+    unfolding step provided
     performs h g = let l = C .left in from-here h ∙ rw (lt-ltb (P .start b + i) (P .total) (omega arith), C .same)
 
     -- a no of Q22
     pub no-code : i < length part → room ≤ i → exitOf (No 22) here ≡ steps P (length part - i) here
-    unfolding step need onward exitOf questionOf
+    unfolding step provided onward exitOf questionOf
     no-code h g = let l = C .left in sym (from-here h ∙ rw (le-ltb (P .start b + i) (P .total) (omega arith)))
 
     -- the last instruction

@@ -9,15 +9,14 @@ use native.Mathlib.Omega.{arith}
 use lib.ListN.{length, take, drop, length-take, length-drop}
 use Rattle.model.specs.declared.Verdict.{Verdict}
 use Rattle.model.specs.Question.{Question, numberOf, questionOf, q1, Outcome, ok, refused, verdictOf}
-use Rattle.model.specs.Table.{Routine, routineOf, startOf, headOf, rows, codeLengthsAsk, lengthsAsk}
-use Rattle.model.specs.Machine.{entering, State, Step, goes, halts, faults, step, Ran, halted, paused, faulted, onward, finish, steps, runBlocks}
-use Rattle.model.specs.Machine.{Run, answerOf, startAsk, memoryLengthAsk, runAsk, opened, run}
+use Rattle.model.specs.Table.{Routine, routineOf, startOf, headOf, rows, lengthsAsk, Code}
+use Rattle.model.specs.Machine.{entering, State, Step, goes, halts, faults, step, Ran, halted, paused, faulted, onward, finish, steps, runBlocks, Run}
+use Rattle.model.specs.Machine.{answerOf, runAsk, opened, run, Ready, runQuestions}
 use Rattle.model.proofs.Logic.{number-unless}
-use Rattle.model.proofs.BlockSound.{Sized}
-use Rattle.model.proofs.TableLaws.{sized}
-use Rattle.model.proofs.MachineLaws.{goes-halts, goes-faults, OfCode, of-7, of-8, of-9, of-18, of-22, fault-asks, Placed, placed-here, placed-step}
+use Rattle.model.proofs.TableLaws.{Sized, sized}
+use Rattle.model.proofs.MachineLaws.{goes-halts, goes-faults, OfCode, of-7, of-8, of-9, of-18, of-22, fault-asks, Visited, visited-here, visited-step}
 use Rattle.model.proofs.MachineLaws.{later, laterRan, blocks-later}
-use Rattle.table.proofs.Questions.{left, no-refusal, inOrder, ComesTo}
+use Rattle.table.proofs.Questions.{left, no-refusal, ComesTo}
 use Rattle.table.proofs.Laws.{start-more}
 use Rattle.step.specs.declared.Exit.{Exit}
 use Rattle.step.specs.declared.Exit.the-variants.{To, Following, Halted, No}
@@ -54,51 +53,52 @@ module _ (P : Routine) where
 
 -- ---- where a block's end leads
 
--- from the block b to the block t
-abbrev pub Leads : Exit → ℕ → ℕ → Type 0
-Leads x b t = (x ≡ To t) ⊎ ((x ≡ Following) × (t ≡ b + 1))
+-- the exit of block b goes to block t
+abbrev pub GoesTo : Exit → ℕ → ℕ → Type 0
+GoesTo x b t = (x ≡ To t) ⊎ ((x ≡ Following) × (t ≡ b + 1))
 
-enters : (x : Exit) (s : State) (t : ℕ) → Leads x (s .block) t → exitOf x s ≡ goes (entering s t)
+enters : (x : Exit) (s : State) (t : ℕ) → GoesTo x (s .block) t → exitOf x s ≡ goes (entering s t)
 unfolding exitOf
 enters x s t (inl e) = rw e
 enters x s t (inr (e, n)) = rw (e, n, add-one (s .block))
 
 -- the steps of a block that exists lead to a block that exists
 module _ (P : Routine) (S : Sized P) where
-  steps-placed : (n : ℕ) (s₀ s s' : State) → Placed P s₀ s → goes s' ≡ steps P n s → Placed P s₀ s'
+  steps-visited : (n : ℕ) (s₀ s s' : State) → Visited P s₀ s → goes s' ≡ steps P n s → Visited P s₀ s'
   unfolding steps onward
-  steps-placed zero s₀ s s' A e = let z : s' ≡ s = cc in rw z A
-  steps-placed (suc n) s₀ s s' A e = go (step P s) refl (λ t B. steps-placed n s₀ t s' B) e
+  steps-visited zero s₀ s s' A e = let z : s' ≡ s = cc in rw z A
+  steps-visited (suc n) s₀ s s' A e = go (step P s) refl (λ t B. steps-visited n s₀ t s' B) e
     where
-      go : (x : Step) → step P s ≡ x → ((t : State) → Placed P s₀ t → goes s' ≡ steps P n t → Placed P s₀ s')
-          → goes s' ≡ onward x (λ t. steps P n t) → Placed P s₀ s'
-      go (goes t) p rest e = rest t (placed-step P S s₀ s t A p) e
+      go : (x : Step) → step P s ≡ x → ((t : State) → Visited P s₀ t → goes s' ≡ steps P n t → Visited P s₀ s')
+          → goes s' ≡ onward x (λ t. steps P n t) → Visited P s₀ s'
+      go (goes t) p rest e = rest t (visited-step P S s₀ s t A p) e
       go (halts t) p rest e = absurd (goes-halts e)
       go (faults q t) p rest e = absurd (goes-faults e)
 
 -- ---- the part of a block
 
-module _ (blocks code : List ℕ) (q : lengthsAsk (routineOf blocks code) ≡ ok tt) where
-  pub bounds : (b : ℕ) → b < rows blocks → (1 ≤ headOf blocks b) × (startOf blocks b + headOf blocks b ≤ length code)
+module _ (C : Code) (q : lengthsAsk (C .blocks) (length (C .code)) ≡ ok tt) where
+  pub bounds : (b : ℕ) → b < rows (C .blocks)
+      → (1 ≤ headOf (C .blocks) b) × (startOf (C .blocks) b + headOf (C .blocks) b ≤ length (C .code))
   unfolding routineOf
-  bounds b h = let S = sized blocks code q in (S .least b h, S .inside b h)
+  bounds b h = let S = sized C q in (S .least b h, S .inside b h)
 
-  pub covers : (b first past : ℕ) → b < rows blocks → first ≡ startOf blocks b → past ≡ startOf blocks (b + 1)
-      → Covers (routineOf blocks code) b (take (past - first) (drop first code)) (length code - first)
+  pub covers : (b first past : ℕ) → b < rows (C .blocks) → first ≡ startOf (C .blocks) b → past ≡ startOf (C .blocks) (b + 1)
+      → Covers (routineOf C) b (take (past - first) (drop first (C .code))) (length (C .code) - first)
   unfolding routineOf
   covers b first past h e₁ e₂ =
       let (l, k) = bounds b h in
-      let d : past - first ≡ headOf blocks b = omega (arith, start-more blocks b) in
+      let d : past - first ≡ headOf (C .blocks) b = omega (arith, start-more (C .blocks) b) in
       rw (d, e₁) (record { same = refl; long = simp (length-take, length-drop) (omega arith); left = omega arith })
 
   -- a block's end leads to a block of the table
-  pub leads-on : (n b j f c c' : ℕ) (r m r' m' : List ℕ) → b < rows blocks
-      → (x : Exit) → exitOf x (at b j r' m' f c') ≡ steps (routineOf blocks code) n (at b 0 r m f c) → (t : ℕ) → Leads x b t → t < rows blocks
+  pub leads-on : (n b j f c c' : ℕ) (r m r' m' : List ℕ) → b < rows (C .blocks)
+      → (x : Exit) → exitOf x (at b j r' m' f c') ≡ steps (routineOf C) n (at b 0 r m f c) → (t : ℕ) → GoesTo x b t → t < rows (C .blocks)
   unfolding routineOf
   leads-on n b j f c c' r m r' m' h x e t z =
-      let S = sized blocks code q in
+      let S = sized C q in
       let s = at b 0 r m f c in
-      steps-placed (routineOf blocks code) S n s s _ (placed-here (routineOf blocks code) S s h refl) (sym (enters x _ t z) ∙ e) .exists
+      steps-visited (routineOf C) S n s s _ (visited-here (routineOf C) S s h refl) (sym (enters x _ t z) ∙ e) .exists
 
 -- ---- a run without the count of instructions
 
@@ -132,7 +132,7 @@ module _ (P : Routine) where
     unfolding runBlocks
     block-more = rw (left budget f h, ← e)
 
-    pub run-on : (t : ℕ) → Leads x b t → rest (budget - f) b r m f ≡ rest (budget - (f + 1)) t r' m' (f + 1)
+    pub run-on : (t : ℕ) → GoesTo x b t → rest (budget - f) b r m f ≡ rest (budget - (f + 1)) t r' m' (f + 1)
     unfolding finish
     run-on t z = block-more ∙ rw (enters x (at b j r' m' f n) t z, add-one f) (carried-free (budget - suc f) t (suc f) (suc n) r' m')
 
@@ -152,33 +152,27 @@ module _ (P : Routine) where
 
 -- ---- the opening questions
 
-opened-no : (o : Outcome (Unit {0})) (P : Routine) (m : List ℕ) (b : ℕ) (r : List ℕ) (k : ℕ) (v : Verdict) → v ≡ verdictOf o → (v .number ≡ 0 → ⊥)
-    → ran (v .number) (v .first) (v .second) 0 r m ≡ opened o P m b r k
+opened-no : (o : Outcome (Unit {0})) (P : Routine) (m : List ℕ) (g : Ready) (k : ℕ) (v : Verdict) → v ≡ verdictOf o → (v .number ≡ 0 → ⊥)
+    → ran (v .number) (v .first) (v .second) 0 (g .registers) m ≡ opened o P m g k
 unfolding verdictOf opened
-opened-no (ok u) P m b r k v e z = absurd (z (ap (λ (x : Verdict). x .number) e))
-opened-no (refused f) P m b r k v e z = rw e
+opened-no (ok u) P m g k v e z = absurd (z (ap (λ (x : Verdict). x .number) e))
+opened-no (refused f) P m g k v e z = rw e
 
-module _ (blocks code m : List ℕ) (b : ℕ) where
+module _ (C : Code) (m : List ℕ) (g : Ready) where
   -- past k questions, those left come to what all come to
   abbrev pub RunPast : ℕ → Type 0
-  RunPast k =
-      ComesTo (verdictOf (runAsk blocks code m b)) (drop k (
-      codeLengthsAsk (length blocks) (length code)
-      ∷ lengthsAsk (routineOf blocks code)
-      ∷ startAsk (routineOf blocks code) b
-      ∷ memoryLengthAsk (length m)
-      ∷ []))
+  RunPast k = ComesTo (verdictOf (runAsk C m (g .block))) (drop k (runQuestions C m (g .block)))
 
   pub run-begins : RunPast 0
-  unfolding runAsk inOrder
+  unfolding runAsk
   run-begins = record { asked = refl }
 
   -- a run whose opening questions come to the verdict v
-  module _ (r : List ℕ) (k : ℕ) (v : Verdict) (e : v ≡ verdictOf (runAsk blocks code m b)) where
-    pub run-refused : (v .number ≡ 0 → ⊥) → ran (v .number) (v .first) (v .second) 0 r m ≡ run blocks code m b r k
+  module _ (k : ℕ) (v : Verdict) (e : v ≡ verdictOf (runAsk C m (g .block))) where
+    pub run-refused : (v .number ≡ 0 → ⊥) → ran (v .number) (v .first) (v .second) 0 (g .registers) m ≡ run C m g k
     unfolding run
-    run-refused n = opened-no (runAsk blocks code m b) (routineOf blocks code) m b r k v e n
+    run-refused n = opened-no (runAsk C m (g .block)) (routineOf C) m g k v e n
 
-    pub run-opens : v .number ≡ 0 → ranOf blocks code m b r k ≡ run blocks code m b r k
+    pub run-opens : v .number ≡ 0 → ranOf C m g k ≡ run C m g k
     unfolding run opened
-    run-opens z = rw (no-refusal (runAsk blocks code m b) v e z)
+    run-opens z = rw (no-refusal (runAsk C m (g .block)) v e z)

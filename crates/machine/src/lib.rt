@@ -2,20 +2,22 @@
 ghost use mathlib.Core.Path.{_≡_};
 ghost use Prim.Native.Nat.{ℕ, _+_, _/_, _<_, _≤_};
 ghost use lib.ListN.{length, getD};
-ghost use Rattle.model.specs.Question.{ok};
-ghost use Rattle.model.specs.Table.{Routine, routineOf, startOf, rows, lengthsAsk};
-ghost use Rattle.model.specs.Machine.{steps, run, returned};
+ghost use Rattle.model.specs.Table.{Routine, codeOf};
+ghost use Rattle.model.specs.Machine.{steps, run, returned, ready};
 ghost use Rattle.instruction.specs.Rows.{opcodeRows};
 ghost use Rattle.step.specs.Answer.{at, exitOf};
-ghost use Rattle.machine.specs.Run.{Covers, ranOf};
+ghost use Rattle.machine.specs.Run.{Covers, Opened, ranOf};
 use model::RunAnswer;
 use model::Verdict;
+use model::limit;
+use model::number::CODE_INDEX;
+use model::number::HALTED;
+use model::number::PASSED;
+use model::number::PAUSED;
+use model::number::START_BLOCK;
 use step::Exit;
 
 // ---- a block
-
-// The number of Q22.
-const OUT_OF_CODE: u32 = 22;
 
 // How a block was left, and the offset of its last instruction carried out or refused.
 struct Ended {
@@ -48,7 +50,7 @@ fn run_block(
         if i == last {
             if room <= last {
                 return Ended {
-                    exit: Exit::No(OUT_OF_CODE),
+                    exit: Exit::No(CODE_INDEX),
                     at: i,
                 };
             }
@@ -57,12 +59,12 @@ fn run_block(
         }
         if room <= i {
             return Ended {
-                exit: Exit::No(OUT_OF_CODE),
+                exit: Exit::No(CODE_INDEX),
                 at: i,
             };
         }
         let number = step::advance(rows, registers, memory, w);
-        if number != 0 {
+        if number != PASSED {
             return Ended {
                 exit: Exit::No(number),
                 at: i,
@@ -73,11 +75,6 @@ fn run_block(
 }
 
 // ---- a run
-
-// The numbers of a halt and of a pause.
-const HALTED: u32 = 0;
-
-const PAUSED: u32 = 40;
 
 // A run's answer.
 fn answer(number: u32, block: u32, index: u32, finished: u64, registers: [u32; 8]) -> RunAnswer
@@ -97,19 +94,18 @@ fn answer(number: u32, block: u32, index: u32, finished: u64, registers: [u32; 8
 fn run_blocks(
     blocks: &[u32],
     code: &[u32],
-    starts: &[u32; 257],
+    starts: &[u32; limit::BLOCKS + 1],
     memory: &mut [u32],
     block: u32,
     registers: [u32; 8],
     budget: u64,
 ) -> RunAnswer
-    requires { ⌜ (lengthsAsk (routineOf (now blocks) (now code)) ≡ ok tt) × (length (now blocks) ≤ 2304) × (length (now code) ≤ 8192)
-        × (block < length (now blocks) / 9) × ((k : ℕ) → k ≤ rows (now blocks) → getD (now starts) k 0 ≡ startOf (now blocks) k) ⌝ }
-    ensures { λ r. ⌜ (r ≡ returned (ranOf (now (blocks .entry)) (now (code .entry)) (now (memory .entry)) block registers budget))
-        × (now (memory .exit) ≡ ranOf (now (blocks .entry)) (now (code .entry)) (now (memory .entry)) block registers budget .memory) ⌝ }
+    requires { ⌜ Opened (now blocks) (now code) (now starts) block ⌝ }
+    ensures { λ r. ⌜ (r ≡ returned (ranOf (codeOf (now (blocks .entry)) (now (code .entry))) (now (memory .entry)) (ready block registers) budget))
+        × (now (memory .exit) ≡ ranOf (codeOf (now (blocks .entry)) (now (code .entry))) (now (memory .entry)) (ready block registers) budget .memory) ⌝ }
 {
     let rows = instruction::opcode_rows();
-    let count = (blocks.len() / table::ROW_WORDS) as u32;
+    let count = (blocks.len() / limit::ROW_WORDS) as u32;
     let mut b = block;
     let mut first = starts[block as usize] as usize;
     let mut current = registers;
@@ -165,23 +161,23 @@ pub fn run(
     registers: [u32; 8],
     budget: u64,
 ) -> RunAnswer
-    ensures { λ r. ⌜ (r ≡ returned (run (now (blocks .entry)) (now (code .entry)) (now (memory .entry)) block registers budget))
-        × (now (memory .exit) ≡ run (now (blocks .entry)) (now (code .entry)) (now (memory .entry)) block registers budget .memory) ⌝ }
+    ensures { λ r. ⌜ (r ≡ returned (run (codeOf (now (blocks .entry)) (now (code .entry))) (now (memory .entry)) (ready block registers) budget))
+        × (now (memory .exit) ≡ run (codeOf (now (blocks .entry)) (now (code .entry))) (now (memory .entry)) (ready block registers) budget .memory) ⌝ }
 {
     let tables = table::code_lengths(blocks.len(), code.len());
-    if tables.number != 0 {
+    if tables.number != PASSED {
         return unopened(tables, registers);
     }
-    let mut starts = [0u32; 257];
+    let mut starts = [0u32; limit::BLOCKS + 1];
     let lengths = table::lengths(blocks, code, &mut starts);
-    if lengths.number != 0 {
+    if lengths.number != PASSED {
         return unopened(lengths, registers);
     }
-    if blocks.len() / table::ROW_WORDS <= block as usize {
-        return unopened(table::answer::refused(table::START_BLOCK, 0), registers);
+    if blocks.len() / limit::ROW_WORDS <= block as usize {
+        return unopened(table::answer::refused(START_BLOCK, 0), registers);
     }
     let words = layout::memory_length(memory.len());
-    if words.number != 0 {
+    if words.number != PASSED {
         return unopened(words, registers);
     }
     run_blocks(blocks, code, &starts, memory, block, registers, budget)

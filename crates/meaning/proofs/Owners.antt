@@ -9,12 +9,12 @@ use lib.ListN.{length, getD, set, length-set, drop, drop-of-length-le}
 use lib.Seq.{getD-set-same, getD-set-other}
 use borrow.Author.Tests.{lt-ltb, le-ltb, eq-eqb, ne-eqb, eqb-true}
 use Rattle.model.specs.Question.{_and_, _or_, pick, ok}
-use Rattle.model.specs.Table.{Tables, rows, headOf}
+use Rattle.model.specs.Table.{Tables}
 use Rattle.model.specs.Allocation.{isAllocated, rowsAsk}
 use Rattle.model.proofs.Logic.{byTest, byEqual, true-and, true-or, pick-true, pick-false, ask-ok}
 use Rattle.model.proofs.TableLaws.{Row, rows-laid}
-use Rattle.layout.proofs.Layouts.{rows-from}
-use Rattle.meaning.specs.Owners.{ownerAt, startsAt, entryOf, ownersOf, RowPlaced, Owned}
+use Rattle.layout.proofs.Layouts.{RowAt, rows-from}
+use Rattle.meaning.specs.Owners.{ownerAt, startsAt, entryOf, ownersOf, RowCanBeLaid, CanBeLaid, Owned}
 
 -- ---- the parts of an entry
 
@@ -84,22 +84,26 @@ module _ (𝒯 : Tables) (top : ℕ) (high : top ≤ 16384) (positive : (t : ℕ
   unfolding startsAt ownerAt
   nothing x t = byTest (ltb x 16384) (λ l. rw (l, clear x) (no-type t)) (λ l. rw l (no-type t))
 
-  -- a list that passed Q19, with a row at its head
-  module _ (p u : ℕ) (rest : List ℕ) (r low : ℕ) (q : rowsAsk 𝒯 top (p ∷ u ∷ rest) r low ≡ ok tt) where
+  -- a list that passed Q19 as the rows from row r on, none of which starts below low
+  record Passing (l : List ℕ) (r low : ℕ) : Type 0 where
+    asked : rowsAsk 𝒯 top l r low ≡ ok tt
+
+  -- with a row at its head
+  module _ {p u : ℕ} {rest : List ℕ} {r low : ℕ} (q : Passing (p ∷ u ∷ rest) r low) where
     row-head : Row 𝒯 top low p u
     unfolding isAllocated
-    row-head = rows-laid 𝒯 top (p ∷ u ∷ rest) r low p u q (true-or _ _ (true-and _ _ (eq-eqb p p refl) (eq-eqb u u refl)))
+    row-head = rows-laid 𝒯 top (p ∷ u ∷ rest) r low p u (q .asked) (true-or _ _ (true-and _ _ (eq-eqb p p refl) (eq-eqb u u refl)))
 
     row-size : 1 ≤ 𝒯 .size u
     row-size = positive u (row-head .exists)
 
-    rows-after : rowsAsk 𝒯 top rest (suc r) (p + 𝒯 .size u) ≡ ok tt
+    rows-after : Passing rest (suc r) (p + 𝒯 .size u)
     unfolding rowsAsk
-    rows-after = ask-ok _ _ _ q .1
+    rows-after = record { asked = ask-ok _ _ _ (q .asked) .1 }
 
     -- the records of the rest start at the end of this one, or beyond it
     beyond : (x t : ℕ) → isAllocated rest x t ≡ true → p + 𝒯 .size u ≤ x
-    beyond x t a = rows-laid 𝒯 top rest (suc r) (p + 𝒯 .size u) x t rows-after a .above
+    beyond x t a = rows-laid 𝒯 top rest (suc r) (p + 𝒯 .size u) x t (rows-after .asked) a .above
 
     not-again : (x t : ℕ) → x ≤ p → isAllocated rest x t ≡ false
     not-again x t h = byTest (isAllocated rest x t) (λ a. absurd (omega (arith, beyond x t a, row-size))) (λ a. a)
@@ -111,6 +115,10 @@ module _ (𝒯 : Tables) (top : ℕ) (high : top ≤ 16384) (positive : (t : ℕ
     allocated-there : (x t : ℕ) → (x ≡ p → ⊥) → isAllocated (p ∷ u ∷ rest) x t ≡ isAllocated rest x t
     unfolding isAllocated _and_ _or_
     allocated-there x t d = rw (ne-eqb p x (λ e. d (sym e)))
+
+    -- the record at p is of the type of this row
+    head-type : (x t : ℕ) → x ≡ p → isAllocated (p ∷ u ∷ rest) x t ≡ true → t ≡ u
+    head-type x t e a = sym (eqb-true u t (sym (allocated-here t) ∙ (rw e at a)))
 
     here : ownerAt (filled (p ∷ u ∷ rest)) p ≡ entryOf (filled rest) (p + 𝒯 .size u) u
     here = at-row (𝒯 .size) blank p u rest long (omega (arith, row-head .inside, row-size))
@@ -152,76 +160,70 @@ module _ (𝒯 : Tables) (top : ℕ) (high : top ≤ 16384) (positive : (t : ℕ
   unfolding isAllocated
   nobody-half p x t a = false≢true a
 
-  starts-are : (l : List ℕ) (r low : ℕ) → rowsAsk 𝒯 top l r low ≡ ok tt → (x t : ℕ) → isAllocated l x t ≡ startsAt (filled l) x t
+  starts-are : (l : List ℕ) {r low : ℕ} → Passing l r low → (x t : ℕ) → isAllocated l x t ≡ startsAt (filled l) x t
   unfolding isAllocated ownersOf startsAt
-  starts-are [] r low q x t = sym (nothing x t)
-  starts-are (p ∷ []) r low q x t = sym (nothing x t)
-  starts-are (p ∷ u ∷ rest) r low q x t =
+  starts-are [] q x t = sym (nothing x t)
+  starts-are (p ∷ []) q x t = sym (nothing x t)
+  starts-are (p ∷ u ∷ rest) q x t =
       byEqual x p
-      (λ e. rw e (allocated-here p u rest r low q t ∙ eqb-more u t ∙ ap (λ (n : ℕ). eqb n (t + 1)) (sym (here-type p u rest r low q))))
-      (λ d. allocated-there p u rest r low q x t d ∙ starts-are rest (suc r) (p + 𝒯 .size u) (rows-after p u rest r low q) x t
-      ∙ ap (λ (n : ℕ). eqb (n / 65536) (t + 1)) (sym (there p u rest r low q x d)))
+      (λ e. rw e (allocated-here q t ∙ eqb-more u t ∙ ap (λ (n : ℕ). eqb n (t + 1)) (sym (here-type q))))
+      (λ d. allocated-there q x t d ∙ starts-are rest (rows-after q) x t ∙ ap (λ (n : ℕ). eqb (n / 65536) (t + 1)) (sym (there q x d)))
 
-  -- the record at x is of the type of the row at the head
-  head-type : (p u : ℕ) (rest : List ℕ) (r low : ℕ) → rowsAsk 𝒯 top (p ∷ u ∷ rest) r low ≡ ok tt
-      → (x t : ℕ) → x ≡ p → isAllocated (p ∷ u ∷ rest) x t ≡ true → t ≡ u
-  head-type p u rest r low q x t e a = sym (eqb-true u t (sym (allocated-here p u rest r low q t) ∙ (rw e at a)))
-
-  ends-are : (l : List ℕ) (r low : ℕ) → rowsAsk 𝒯 top l r low ≡ ok tt → (x t : ℕ) → isAllocated l x t ≡ true
+  ends-are : (l : List ℕ) {r low : ℕ} → Passing l r low → (x t : ℕ) → isAllocated l x t ≡ true
       → ownerAt (filled l) x ≡ pick (isAllocated l (x + 𝒯 .size t) t) (ownerAt (filled l) (x + 𝒯 .size t)) ((t + 1) * 65536 + (x + 𝒯 .size t))
-  ends-are [] r low q x t a = absurd (nobody x t a)
-  ends-are (p ∷ []) r low q x t a = absurd (nobody-half p x t a)
-  ends-are (p ∷ u ∷ rest) r low q x t a =
-      let after = rows-after p u rest r low q in
+  ends-are [] q x t a = absurd (nobody x t a)
+  ends-are (p ∷ []) q x t a = absurd (nobody-half p x t a)
+  ends-are (p ∷ u ∷ rest) q x t a =
       byEqual x p
-      (λ e. rw (head-type p u rest r low q x t e a, e) (here-ends p u rest r low q (starts-are rest (suc r) (p + 𝒯 .size u) after)))
-      (λ d. let b = sym (allocated-there p u rest r low q x t d) ∙ a in
-      let n : x + 𝒯 .size t ≡ p → ⊥ = λ e. omega (arith, beyond p u rest r low q x t b, row-size p u rest r low q) in
-      there p u rest r low q x d ∙ ends-are rest (suc r) (p + 𝒯 .size u) after x t b
-      ∙ pick-same _ _ _ _ _ (sym (allocated-there p u rest r low q (x + 𝒯 .size t) t n)) (sym (there p u rest r low q (x + 𝒯 .size t) n)))
+      (λ e. rw (head-type q x t e a, e) (here-ends q (starts-are rest (rows-after q))))
+      (λ d. let b = sym (allocated-there q x t d) ∙ a in
+      let n : x + 𝒯 .size t ≡ p → ⊥ = λ e. omega (arith, beyond q x t b, row-size q) in
+      there q x d ∙ ends-are rest (rows-after q) x t b
+      ∙ pick-same _ _ _ _ _ (sym (allocated-there q (x + 𝒯 .size t) t n)) (sym (there q (x + 𝒯 .size t) n)))
 
-  reaches-are : (l : List ℕ) (r low : ℕ) → rowsAsk 𝒯 top l r low ≡ ok tt → (x t : ℕ) → isAllocated l x t ≡ true → x + 𝒯 .size t ≤ ownerAt (filled l) x % 65536
-  reaches-are [] r low q x t a = absurd (nobody x t a)
-  reaches-are (p ∷ []) r low q x t a = absurd (nobody-half p x t a)
-  reaches-are (p ∷ u ∷ rest) r low q x t a =
-      let after = rows-after p u rest r low q in
+  reaches-are : (l : List ℕ) {r low : ℕ} → Passing l r low → (x t : ℕ) → isAllocated l x t ≡ true → x + 𝒯 .size t ≤ ownerAt (filled l) x % 65536
+  reaches-are [] q x t a = absurd (nobody x t a)
+  reaches-are (p ∷ []) q x t a = absurd (nobody-half p x t a)
+  reaches-are (p ∷ u ∷ rest) q x t a =
       byEqual x p
-      (λ e. rw (head-type p u rest r low q x t e a, e) (here-reaches p u rest r low q (starts-are rest (suc r) (p + 𝒯 .size u) after)
-      (λ b. reaches-are rest (suc r) (p + 𝒯 .size u) after (p + 𝒯 .size u) u b)))
-      (λ d. let b = sym (allocated-there p u rest r low q x t d) ∙ a in
-      rw (there p u rest r low q x d) (reaches-are rest (suc r) (p + 𝒯 .size u) after x t b))
+      (λ e. rw (head-type q x t e a, e) (here-reaches q (starts-are rest (rows-after q)) (λ b. reaches-are rest (rows-after q) (p + 𝒯 .size u) u b)))
+      (λ d. rw (there q x d) (reaches-are rest (rows-after q) x t (sym (allocated-there q x t d) ∙ a)))
 
   -- the table of a passed list of allocations
   pub owned : (l owners : List ℕ) → rowsAsk 𝒯 top l 0 1 ≡ ok tt → owners ≡ ownersOf (𝒯 .size) l blank → Owned 𝒯 l owners
-  owned l owners q e =
+  owned l owners o e =
+      let q : Passing l 0 1 = record { asked = o } in
       rw e (record {
-        starts = starts-are l 0 1 q;
-        reaches = reaches-are l 0 1 q;
-        goes-on = λ x t a b. ends-are l 0 1 q x t a ∙ pick-true _ _ _ b;
-        ends = λ x t a b. ap (λ (n : ℕ). n % 65536) (ends-are l 0 1 q x t a ∙ pick-false _ _ _ b)
-            ∙ entry-end t (x + 𝒯 .size t) (omega (arith, rows-laid 𝒯 top l 0 1 x t q a .inside));
+        starts = starts-are l q;
+        reaches = reaches-are l q;
+        goes-on = λ x t a b. ends-are l q x t a ∙ pick-true _ _ _ b;
+        ends = λ x t a b. ap (λ (n : ℕ). n % 65536) (ends-are l q x t a ∙ pick-false _ _ _ b)
+            ∙ entry-end t (x + 𝒯 .size t) (omega (arith, rows-laid 𝒯 top l 0 1 x t o a .inside));
       })
 
--- ---- the rows from row k on
+-- ---- the rows as a loop lays them, the last first
 
-module _ (size : ℕ → ℕ) (l blank : List ℕ) where
-  -- before the last row nothing is laid
-  pub fill-none : (k : ℕ) → length l ≤ k * 2 → blank ≡ ownersOf size (drop (k * 2) l) blank
+-- the table holds the rows from row k on, over what it held before
+pub record LaidFrom (size : ℕ → ℕ) (allocations blank owners : List ℕ) (k : ℕ) : Type 0 where
+  pub table : owners ≡ ownersOf size (drop (k * 2) allocations) blank
+  pub within : k ≤ length allocations / 2
+
+-- past the last row nothing is laid
+pub laid-none : (size : ℕ → ℕ) (allocations blank : List ℕ) → length allocations % 2 ≡ 0 → LaidFrom size allocations blank blank (length allocations / 2)
+unfolding ownersOf
+laid-none size allocations blank h =
+    let past : length allocations ≤ length allocations / 2 * 2 = omega arith in
+    record { table = rw (drop-of-length-le allocations past); within = omega arith }
+
+module _ {size : ℕ → ℕ} {allocations blank owners : List ℕ} {n : ℕ} (L : LaidFrom size allocations blank owners n) where
+  pub laid-row : {k p t : ℕ} → RowAt allocations k p t → n ≡ k + 1 → (z e : ℕ) → z ≡ size t → e ≡ entryOf owners (p + z) t
+      → LaidFrom size allocations blank (set owners p e) k
   unfolding ownersOf
-  fill-none k h = rw (drop-of-length-le l h)
+  laid-row R en z e ez ee = record { table = rw (rows-from R, ← en, ← L .table, ← ez, ← ee); within = omega (arith, L .within) }
 
-  pub fill-row : (k n : ℕ) (owners : List ℕ) → n ≡ k + 1 → k * 2 + 1 < length l → owners ≡ ownersOf size (drop (n * 2) l) blank
-      → (p t z e : ℕ) → p ≡ getD l (k * 2) 0 → t ≡ getD l (k * 2 + 1) 0 → z ≡ size t → e ≡ entryOf owners (p + z) t
-      → set owners p e ≡ ownersOf size (drop (k * 2) l) blank
-  unfolding ownersOf
-  fill-row k n owners en h eo p t z e ep et ez ee =
-      rw (rows-from l k h, ← en, ← eo, ← ep, ← et, ← ez, ← ee)
+  pub laid-all : n ≡ 0 → owners ≡ ownersOf size allocations blank
+  laid-all z = rw z at (L .table)
 
-  pub fill-all : (k : ℕ) (owners : List ℕ) → k ≡ 0 → owners ≡ ownersOf size (drop (k * 2) l) blank → owners ≡ ownersOf size l blank
-  fill-all k owners z e = rw z at e
-
--- a row that can be laid, by its start and type
-pub row-placed : (types allocations : List ℕ) (k : ℕ) → RowPlaced types allocations k → (p t : ℕ)
-    → p ≡ getD allocations (k * 2) 0 → t ≡ getD allocations (k * 2 + 1) 0
-    → (t < rows types) × (1 ≤ headOf types t) × (p + headOf types t ≤ 16384)
-row-placed types allocations k q p t ep et = rw (ep, et) q
+-- a row of allocations that can be laid, by its start and type
+pub row-can-be-laid : {types allocations : List ℕ} {k p t : ℕ} → CanBeLaid types allocations → RowAt allocations k p t → RowCanBeLaid types p t
+row-can-be-laid {k = k} C R = rw (R .start, R .typed) (C .each k (R .whole))

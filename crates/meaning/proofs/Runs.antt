@@ -78,33 +78,41 @@ module _ (𝒯 : Tables) (allocations owners : List ℕ) (I : Owned 𝒯 allocat
 
 -- ---- one law for each answer to 'is it a run?'
 
-module _ (types tags allocations owners : List ℕ) (I : Owned (tablesOf types tags) allocations owners) (t d e p : ℕ) where
-  pub run-empty : e ≤ d → false ≡ runTest (tablesOf types tags) allocations t d e p
-  unfolding runTest _and_
-  run-empty h = rw (le-ltb d e h)
+pub run-empty : (𝒯 : Tables) (allocations : List ℕ) (t d e p : ℕ) → e ≤ d → false ≡ runTest 𝒯 allocations t d e p
+unfolding runTest _and_
+run-empty 𝒯 allocations t d e p h = rw (le-ltb d e h)
 
-  module _ (h : d < e) where
-    pub run-unstarted : startsAt owners d t ≡ false → false ≡ runTest (tablesOf types tags) allocations t d e p
-    unfolding runTest
-    run-unstarted a =
-        sym (and-no _ _ (λ _. and-no _ _ (λ _. and-no _ _ (λ _. starts-no (tablesOf types tags) allocations owners I t (e - d) d e _ h (I .starts d t ∙ a)))))
+pub run-unstarted : {𝒯 : Tables} {allocations owners : List ℕ} → Owned 𝒯 allocations owners → (t d e p : ℕ)
+    → d < e → startsAt owners d t ≡ false → false ≡ runTest 𝒯 allocations t d e p
+unfolding runTest
+run-unstarted I t d e p h a =
+    sym (and-no _ _ (λ _. and-no _ _ (λ _. and-no _ _ (λ _. starts-no _ _ _ I t (e - d) d e _ h (I .starts d t ∙ a)))))
 
-    module _ (s : 1 ≤ headOf types t) (a : startsAt owners d t ≡ true) where
-      run-starts : (e - d) % headOf types t ≡ 0
-          → startsTest (tablesOf types tags) allocations (e - d) d e (headOf types t) t ≡ leb e (ownerAt owners d % 65536)
-      unfolding tablesOf
-      run-starts m = whole-run (tablesOf types tags) allocations owners I t d e s h m (I .starts d t ∙ a)
+-- words from d to e, the first of which starts a record of type t
+pub record RunBegun (types owners : List ℕ) (t d e : ℕ) : Type 0 where
+  pub ahead : d < e
+  pub some : 1 ≤ headOf types t
+  pub starts : startsAt owners d t ≡ true
 
-      pub run-short : ownerAt owners d % 65536 < e → false ≡ runTest (tablesOf types tags) allocations t d e p
-      unfolding runTest tablesOf
-      run-short l = sym (and-no _ _ (λ _. and-no _ _ (λ m. and-no _ _ (λ _. run-starts (eqb-true _ 0 m) ∙ lt-leb e _ l))))
+module _ {types : List ℕ} (tags : List ℕ) {allocations owners : List ℕ} (I : Owned (tablesOf types tags) allocations owners) (p : ℕ) {t d e : ℕ}
+    (B : RunBegun types owners t d e) where
+  run-starts : (e - d) % headOf types t ≡ 0
+      → startsTest (tablesOf types tags) allocations (e - d) d e (headOf types t) t ≡ leb e (ownerAt owners d % 65536)
+  unfolding tablesOf
+  run-starts m = whole-run (tablesOf types tags) allocations owners I t d e (B .some) (B .ahead) m (I .starts d t ∙ B .starts)
 
-      module _ (l : e ≤ ownerAt owners d % 65536) (n : ℕ) (en : n ≡ headOf types t) where
-        pub run-broken : ((e - d) % n ≡ 0 → ⊥) → false ≡ runTest (tablesOf types tags) allocations t d e p
-        unfolding runTest tablesOf
-        run-broken m = sym (and-no _ _ (λ _. and-no _ _ (λ q. absurd (m (rw en (eqb-true _ 0 q))))))
+  pub run-short : ownerAt owners d % 65536 < e → false ≡ runTest (tablesOf types tags) allocations t d e p
+  unfolding runTest tablesOf
+  run-short l = sym (and-no _ _ (λ _. and-no _ _ (λ m. and-no _ _ (λ _. run-starts (eqb-true _ 0 m) ∙ lt-leb e _ l))))
 
-        pub run-aligned : (e - d) % n ≡ 0 → (x : ℕ) → x ≡ difference p d → eqb (x % n) 0 ≡ runTest (tablesOf types tags) allocations t d e p
-        unfolding runTest tablesOf
-        run-aligned m x ex =
-            rw (ex, en) (sym (and-yes _ _ (lt-ltb d e h) ∙ and-yes _ _ (eq-eqb _ 0 (rw en at m)) ∙ yes-and _ _ (run-starts (rw en at m) ∙ le-leb e _ l)))
+  module _ (n : ℕ) (en : n ≡ headOf types t) where
+    pub run-broken : ((e - d) % n ≡ 0 → ⊥) → false ≡ runTest (tablesOf types tags) allocations t d e p
+    unfolding runTest tablesOf
+    run-broken m = sym (and-no _ _ (λ _. and-no _ _ (λ q. absurd (m (rw en (eqb-true _ 0 q))))))
+
+    pub run-aligned : (e - d) % n ≡ 0 → e ≤ ownerAt owners d % 65536 → (x : ℕ) → x ≡ difference p d
+        → eqb (x % n) 0 ≡ runTest (tablesOf types tags) allocations t d e p
+    unfolding runTest tablesOf
+    run-aligned m l x ex =
+        rw (ex, en) (sym (
+        and-yes _ _ (lt-ltb d e (B .ahead)) ∙ and-yes _ _ (eq-eqb _ 0 (rw en at m)) ∙ yes-and _ _ (run-starts (rw en at m) ∙ le-leb e _ l)))

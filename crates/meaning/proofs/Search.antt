@@ -8,7 +8,7 @@ use native.Mathlib.Numerals.{add-one}
 use native.Mathlib.Omega.{arith}
 use lib.ListN.{getD, drop}
 use lib.Seq.{getD-drop}
-use Rattle.model.specs.Question.{Refusal, refusal, q20, q21, Outcome, ok, refused, ask, asked, then, firstNo}
+use Rattle.model.specs.Question.{Refusal, refusal, q20, q21, Outcome, ok, refused, asked, then, firstNo, provided}
 use Rattle.model.specs.Types.{typeOf}
 use Rattle.model.specs.Table.{Tables}
 use Rattle.model.specs.MemoryCheck.{meets, fieldAsk, registerAsk}
@@ -16,23 +16,30 @@ use Rattle.model.proofs.Logic.{byTest}
 use Rattle.table.proofs.Questions.{left}
 use Rattle.meaning.specs.Search.{firstFalse, placeMeets}
 
--- ---- the search as a loop runs it: whole is what the places from i on come to
+-- ---- the search as a loop runs it
 
-module _ (f : ℕ → Bool) (n i whole : ℕ) (e : whole ≡ firstFalse (n - i) i f) where
-  pub search-on : i < n → f i ≡ true → whole ≡ firstFalse (n - (i + 1)) (i + 1) f
+-- the places from i on, of the n that are searched, come to what all come to, whatever X leaves open
+pub record PlacesLeft {X : Type 0} (f : X → ℕ → Bool) (n i : ℕ) : Type 0 where
+  pub rest : (x : X) → firstFalse n 0 (f x) ≡ firstFalse (n - i) i (f x)
+  pub within : i ≤ n
+
+pub search-begins : {X : Type 0} (f : X → ℕ → Bool) (n : ℕ) → PlacesLeft f n 0
+search-begins f n = record { rest = λ x. rw sub-zero; within = omega arith }
+
+module _ {X : Type 0} {f : X → ℕ → Bool} {n i : ℕ} (L : PlacesLeft f n i) where
+  pub search-on : i < n → ((x : X) → f x i ≡ true) → PlacesLeft f n (i + 1)
   unfolding firstFalse
-  search-on h l = rw (e, left n i h, l, add-one i)
+  search-on h y = record { rest = λ x. L .rest x ∙ rw (left n i h, y x, add-one i); within = omega arith }
 
-  pub search-stops : i < n → f i ≡ false → i ≡ whole
+  pub search-stops : (x : X) → i < n → f x i ≡ false → i ≡ firstFalse n 0 (f x)
   unfolding firstFalse
-  search-stops h l = rw (e, left n i h, l)
+  search-stops x h y = rw (L .rest x, left n i h, y)
 
-  pub search-ends : i ≡ n → n ≡ whole
+  pub search-ends : (x : X) → n ≤ i → n ≡ firstFalse n 0 (f x)
   unfolding firstFalse
-  search-ends h = sym h ∙ sym (rw (e, sub-eq-zero-of-le {n = n} {m = i} (omega arith)))
-
-pub search-start : (f : ℕ → Bool) (n : ℕ) → firstFalse n 0 f ≡ firstFalse (n - 0) 0 f
-search-start f n = rw sub-zero
+  search-ends x h =
+      let e : n ≡ i = omega (arith, L .within) in
+      e ∙ sym (L .rest x ∙ rw (sub-eq-zero-of-le h))
 
 -- the answer of one place
 pub place-is : (𝒯 : Tables) (allocations words names : List ℕ) (i w : ℕ) (b : Bool)
@@ -44,7 +51,7 @@ place-is 𝒯 allocations words names i w b e h = e ∙ ap (λ (v : ℕ). meets 
 
 module _ (f : ℕ → Bool) (no : ℕ → Refusal) (q : ℕ → Outcome (Unit {0})) (same : (j : ℕ) → q j ≡ asked (f j) (no j)) where
   pub found : (n i k : ℕ) → k ≡ firstFalse n i f → k < i + n → firstNo n i q ≡ refused (no k)
-  unfolding firstFalse firstNo then ask
+  unfolding firstFalse firstNo then provided
   found zero i k e h = absurd (omega arith)
   found (suc n) i k e h =
       byTest (f i)
@@ -52,7 +59,7 @@ module _ (f : ℕ → Bool) (no : ℕ → Refusal) (q : ℕ → Outcome (Unit {0
       (λ l. rw (same i, l) (ap (λ (j : ℕ). refused (no j)) (sym (e ∙ rw l))))
 
   pub none-found : (n i k : ℕ) → k ≡ firstFalse n i f → i + n ≤ k → firstNo n i q ≡ ok tt
-  unfolding firstFalse firstNo then ask
+  unfolding firstFalse firstNo then provided
   none-found zero i k e h = refl
   none-found (suc n) i k e h =
       byTest (f i)

@@ -27,17 +27,17 @@ ownersOf size [] owners = owners
 ownersOf size (p ∷ []) owners = owners
 ownersOf size (p ∷ t ∷ rest) owners = set (ownersOf size rest owners) p (entryOf (ownersOf size rest owners) (p + size t) t)
 
--- row k has a type of the table, and its record ends within the addresses
-abbrev pub RowPlaced : List ℕ → List ℕ → ℕ → Type 0
-RowPlaced types allocations k =
-    (getD allocations (k * 2 + 1) 0 < rows types)
-    × (1 ≤ headOf types (getD allocations (k * 2 + 1) 0))
-    × (getD allocations (k * 2) 0 + headOf types (getD allocations (k * 2 + 1) 0) ≤ 16384)
+-- a record of type t at p has a field, and ends within the addresses
+pub record RowCanBeLaid (types : List ℕ) (p t : ℕ) : Type 0 where
+  pub exists : t < rows types
+  pub some : 1 ≤ headOf types t
+  pub inside : p + headOf types t ≤ 16384
 
--- the rows that can be laid: whole ones, each in its place, over types that an entry has room for
-abbrev pub Placed : List ℕ → List ℕ → Type 0
-Placed types allocations =
-    (rows types ≤ 64) × (length allocations % 2 ≡ 0) × ((k : ℕ) → k * 2 + 1 < length allocations → RowPlaced types allocations k)
+-- the allocations that can be laid into the table: whole rows, over types that an entry has room for
+pub record CanBeLaid (types allocations : List ℕ) : Type 0 where
+  pub few : rows types ≤ 64
+  pub even : length allocations % 2 ≡ 0
+  pub each : (k : ℕ) → k * 2 + 1 < length allocations → RowCanBeLaid types (getD allocations (k * 2) 0) (getD allocations (k * 2 + 1) 0)
 
 -- the table tells what the allocations say: which records start where, and how far a run of them goes
 pub record Owned (𝒯 : Tables) (allocations owners : List ℕ) : Type 0 where

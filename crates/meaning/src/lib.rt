@@ -1,15 +1,15 @@
 // The meanings: whether a word meets its type word, and the first word of a record or of the registers that does not.
 ghost use mathlib.Core.Path.{_≡_};
-ghost use mathlib.Core.Bool.{true};
 ghost use mathlib.Core.List.{List};
-ghost use Prim.Native.Nat.{ℕ, _+_, _-_, _*_, _≤_, _<_};
+ghost use Prim.Native.Nat.{ℕ, _-_, _≤_, _<_};
 ghost use lib.ListN.{length, getD};
 ghost use Rattle.model.specs.Word.{difference};
 ghost use Rattle.model.specs.Types.{typeOf, depOf, wordOf};
-ghost use Rattle.model.specs.Table.{Tables, tablesOf, rows, wordsOf, wellMade};
+ghost use Rattle.model.specs.Table.{Tables, tablesOf, rows, wordsOf};
 ghost use Rattle.model.specs.MemoryCheck.{runTest, rankTest, tagTest, meets};
 ghost use Rattle.meaning.specs.Owners.{Owned};
-ghost use Rattle.meaning.specs.Search.{firstFalse, placeMeets, Legible, Sized};
+ghost use Rattle.meaning.specs.Search.{firstFalse, placeMeets, Legible, EachHasField, RowLegible};
+use model::limit;
 
 pub mod owner;
 
@@ -25,7 +25,7 @@ fn dependency(names: &[u32], x: u32) -> u32
 }
 
 // Whether d is a tag in the table and p a reference to that tag's type.
-fn is_tagged(tags: &[u32], owners: &[u32; 16384], d: u32, p: u32) -> bool
+fn is_tagged(tags: &[u32], owners: &[u32; limit::MEMORY], d: u32, p: u32) -> bool
     ensures { λ r. ⌜ ((types allocations : List ℕ) → Owned (tablesOf types (now (tags .entry))) allocations (now (owners .entry))
         → r ≡ tagTest (tablesOf types (now (tags .entry))) allocations d p) ⌝ }
 {
@@ -63,8 +63,8 @@ fn distance(d: u32, p: u32) -> u32
 
 // Whether records of type t stand from d to e without a gap and p is in step with them. The table of owners has the end of
 // the run from d, so that no element is looked at.
-fn is_run(types: &[u32], owners: &[u32; 16384], t: u32, d: u32, e: u32, p: u32) -> bool
-    requires { ⌜ (t < rows (now types)) × Sized (now types) ⌝ }
+fn is_run(types: &[u32], owners: &[u32; limit::MEMORY], t: u32, d: u32, e: u32, p: u32) -> bool
+    requires { ⌜ (t < rows (now types)) × EachHasField (now types) ⌝ }
     ensures { λ r. ⌜ ((tags allocations : List ℕ) → Owned (tablesOf (now (types .entry)) tags) allocations (now (owners .entry))
         → r ≡ runTest (tablesOf (now (types .entry)) tags) allocations t d e p) ⌝ }
 {
@@ -85,8 +85,15 @@ fn is_run(types: &[u32], owners: &[u32; 16384], t: u32, d: u32, e: u32, p: u32) 
 }
 
 // Whether word p meets type word w, whose names stand for the words of names.
-fn is_met(types: &[u32], tags: &[u32], owners: &[u32; 16384], names: &[u32], w: u32, p: u32) -> bool
-    requires { ⌜ Sized (now types) × Legible (rows (now types)) (length (now names)) w ⌝ }
+fn is_met(
+    types: &[u32],
+    tags: &[u32],
+    owners: &[u32; limit::MEMORY],
+    names: &[u32],
+    w: u32,
+    p: u32,
+) -> bool
+    requires { ⌜ EachHasField (now types) × Legible (rows (now types)) (length (now names)) w ⌝ }
     ensures { λ r. ⌜ ((allocations : List ℕ) → Owned (tablesOf (now (types .entry)) (now (tags .entry))) allocations (now (owners .entry))
         → r ≡ meets (tablesOf (now (types .entry)) (now (tags .entry))) allocations (typeOf w) (λ g. getD (now (names .entry)) g 0) p) ⌝ }
 {
@@ -125,14 +132,13 @@ fn is_met(types: &[u32], tags: &[u32], owners: &[u32; 16384], names: &[u32], w: 
 pub fn first_unmet(
     types: &[u32],
     tags: &[u32],
-    owners: &[u32; 16384],
+    owners: &[u32; limit::MEMORY],
     table: &[u32],
     k: usize,
     names: &[u32],
     n: usize,
 ) -> usize
-    requires { ⌜ Sized (now types) × (k * 9 + 9 ≤ length (now table)) × (n ≤ 8) × (n ≤ length (now names))
-        × ((i : ℕ) → i < n → wellMade (rows (now types)) n (getD (wordsOf (now table) k) i 0) ≡ true) ⌝ }
+    requires { ⌜ RowLegible (now types) (now table) k (now names) n ⌝ }
     ensures { λ r. ⌜ ((allocations : List ℕ) → Owned (tablesOf (now (types .entry)) (now (tags .entry))) allocations (now (owners .entry))
         → r ≡ firstFalse n 0 (placeMeets (tablesOf (now (types .entry)) (now (tags .entry))) allocations
         (wordsOf (now (table .entry)) k) (now (names .entry)))) ⌝ }

@@ -2,27 +2,26 @@
 use mathlib.Core.Path.{_≡_, refl, sym, ap, _∙_}
 use mathlib.Core.Bool.{true}
 use mathlib.Core.List.{List, [], _∷_}
-use Prim.Native.Nat.{ℕ, zero, suc, _+_, _-_, _*_, _≤_, _<_}
+use Prim.Native.Nat.{ℕ, zero, suc, _+_, _-_, _*_, _/_, _≤_, _<_}
 use native.Mathlib.Numerals.{add-one}
 use native.Mathlib.Omega.{arith}
 use lib.ListN.{length, getD, take, drop, length-drop, drop-of-length-le, replicate, length-replicate}
 use lib.Seq.{take-all}
 use borrow.Author.Tests.{ltb-true}
-use Rattle.model.specs.Question.{q20, q21, refusal, Outcome, ok, then, firstNo, passed, refusing, verdictOf}
-use Rattle.model.specs.Table.{rows, headOf, wordsOf, Tables, tablesOf, routineOf, wellMade}
-use Rattle.model.specs.Table.{codeLengthsAsk, lengthsAsk, annotationsAsk}
-use Rattle.model.specs.Machine.{startAsk}
-use Rattle.model.specs.MemoryCheck.{recordsAsk, registerAsk, layoutAsk, memoryAsk, memoryCheck, entryAsk, entryCheck}
-use Rattle.model.proofs.Logic.{ask-ok, passed-then, ok-verdict}
-use Rattle.table.proofs.Questions.{inOrder, as-one, ComesTo}
+use Rattle.model.specs.Question.{q20, q21, refusal, ok, then, firstNo, passed, refusing, verdictOf}
+use Rattle.model.specs.Table.{rows, headOf, wordsOf, Tables, tablesOf, wellMade, annotationsAsk, startAsk, Code}
+use Rattle.model.specs.Machine.{Ready}
+use Rattle.model.specs.MemoryCheck.{recordsAsk, registerAsk, layoutAsk, memoryAsk, memoryCheck, entryAsk, entryCheck, routineAsk, entryQuestions}
+use Rattle.model.specs.MemoryCheck.{memoryQuestions, routineQuestions}
+use Rattle.model.proofs.Logic.{ask-ok, ok-verdict, all-passed}
+use Rattle.table.proofs.Questions.{ComesTo}
 use Rattle.table.proofs.Laws.{annotation-well-made}
-use Rattle.layout.proofs.Layouts.{rows-from}
+use Rattle.layout.proofs.Layouts.{RowAt, rows-from}
 use Rattle.layout.proofs.Passed.{layout-types, layout-memory, layout-even, layout-laid, layout-sizes, layout-row}
-use Rattle.meaning.specs.Owners.{ownersOf, Placed, Owned}
-use Rattle.meaning.specs.Search.{firstFalse, placeMeets, Sized}
+use Rattle.meaning.specs.Owners.{ownersOf, CanBeLaid, Owned}
+use Rattle.meaning.specs.Search.{firstFalse, placeMeets, EachHasField}
 use Rattle.meaning.proofs.Owners.{owned}
 use Rattle.meaning.proofs.Search.{found, none-found, field-is, register-is}
-use Rattle.memory.specs.Entry.{routineAsk}
 
 -- zeros, as many as there are addresses or any other number
 zero-at : (n x : ℕ) → _≡_ {A = ℕ} (getD (replicate n 0) x 0) 0
@@ -33,24 +32,25 @@ zero-at (suc n) (suc x) = zero-at n x
 -- ---- the table of owners of a passed layout
 
 module _ (types tags allocations : List ℕ) (top : ℕ) (q : layoutAsk types tags allocations top ≡ ok tt) where
-  pub layout-sized : Sized types
-  layout-sized t h = layout-sizes types tags allocations top q t h .0
+  pub layout-fields : EachHasField types
+  layout-fields t h = layout-sizes types tags allocations top q t h .0
 
-  pub layout-placed : Placed types allocations
-  layout-placed = (
-    omega (arith, layout-types types tags allocations top q),
-    layout-even types tags allocations top q,
-    λ k h.
-        let (a, b, c) = layout-row types tags allocations top q k h _ _ refl refl in
-        (a, layout-sized _ a, omega (arith, c, layout-memory types tags allocations top q)),
-  )
+  pub layout-can-be-laid : CanBeLaid types allocations
+  layout-can-be-laid = record {
+    few = omega (arith, layout-types types tags allocations top q);
+    even = layout-even types tags allocations top q;
+    each = λ k h.
+        let R : RowAt allocations k (getD allocations (k * 2) 0) (getD allocations (k * 2 + 1) 0) = record { whole = h; start = refl; typed = refl } in
+        let P = layout-row types tags allocations top q R in
+        record { exists = P .exists; some = P .some; inside = omega (arith, P .inside, layout-memory types tags allocations top q) };
+  }
 
   -- the table filled from zeros
   pub layout-owned : (n : ℕ) (owners : List ℕ) → n ≡ 16384 → owners ≡ ownersOf (λ t. headOf types t) allocations (replicate n 0)
       → Owned (tablesOf types tags) allocations owners
   unfolding tablesOf
   layout-owned n owners h e =
-      owned (tablesOf types tags) top (layout-memory types tags allocations top q) layout-sized
+      owned (tablesOf types tags) top (layout-memory types tags allocations top q) layout-fields
       (replicate n 0) (length-replicate n 0 ∙ h) (zero-at n) allocations owners (layout-laid types tags allocations top q) e
 
 -- ---- the words of memory from p on, as a part of memory
@@ -61,91 +61,84 @@ tail-is memory p = take-all (length memory - p) (drop p memory) (omega (arith, l
 pub tail-length : (memory : List ℕ) (p n : ℕ) → p + n ≤ length memory → n ≤ length (take (length memory - p) (drop p memory))
 tail-length memory p n h = rw (tail-is memory p) (omega (arith, length-drop p memory))
 
--- ---- Q20: whole is what the records from row k on come to
+-- ---- Q20, as a loop asks it
 
-module _ (types tags allocations memory : List ℕ) (k : ℕ) (whole : Outcome (Unit {0}))
-    (e : whole ≡ recordsAsk (tablesOf types tags) allocations memory (drop (k * 2) allocations) k) where
-  module _ (h : k * 2 + 1 < length allocations) (p t n f : ℕ) (ep : p ≡ getD allocations (k * 2) 0) (et : t ≡ getD allocations (k * 2 + 1) 0)
-      (en : n ≡ headOf types t)
-      (ef : f ≡ firstFalse n 0 (placeMeets (tablesOf types tags) allocations (wordsOf types t) (take (length memory - p) (drop p memory)))) where
+-- the records from row k on come to what all come to
+pub record RecordsLeft (types tags allocations memory : List ℕ) (k : ℕ) : Type 0 where
+  pub rest : recordsAsk (tablesOf types tags) allocations memory allocations 0
+      ≡ recordsAsk (tablesOf types tags) allocations memory (drop (k * 2) allocations) k
+  pub within : k ≤ length allocations / 2
+
+pub records-begin : (types tags allocations memory : List ℕ) → RecordsLeft types tags allocations memory 0
+records-begin types tags allocations memory = record { rest = refl; within = omega arith }
+
+-- the record of row k, of type t at p, has been searched: field f is the first that is not met, of n
+pub record Searched (types tags allocations memory : List ℕ) (k p t n f : ℕ) : Type 0 where
+  pub row : RowAt allocations k p t
+  pub size : n ≡ headOf types t
+  pub search : f ≡ firstFalse n 0 (placeMeets (tablesOf types tags) allocations (wordsOf types t) (take (length memory - p) (drop p memory)))
+
+module _ {types tags allocations memory : List ℕ} {k : ℕ} (L : RecordsLeft types tags allocations memory k) where
+  module _ {p t n f : ℕ} (S : Searched types tags allocations memory k p t n f) where
     first-unmet : f ≡ firstFalse n 0 (placeMeets (tablesOf types tags) allocations (wordsOf types t) (drop p memory))
-    first-unmet = ef ∙ ap (λ (names : List ℕ). firstFalse n 0 (placeMeets (tablesOf types tags) allocations (wordsOf types t) names)) (tail-is memory p)
+    first-unmet =
+        S .search
+        ∙ ap (λ (names : List ℕ). firstFalse n 0 (placeMeets (tablesOf types tags) allocations (wordsOf types t) names)) (tail-is memory p)
 
-    pub records-on : n ≤ f → whole ≡ recordsAsk (tablesOf types tags) allocations memory (drop ((k + 1) * 2) allocations) (k + 1)
+    row-rest : recordsAsk (tablesOf types tags) allocations memory allocations 0
+        ≡ recordsAsk (tablesOf types tags) allocations memory (p ∷ t ∷ drop ((k + 1) * 2) allocations) k
+    row-rest = L .rest ∙ ap (λ (l : List ℕ). recordsAsk (tablesOf types tags) allocations memory l k) (rows-from (S .row))
+
+    pub records-on : n ≤ f → RecordsLeft types tags allocations memory (k + 1)
     unfolding recordsAsk tablesOf then
     records-on l =
-        rw (
-          e,
-          rows-from allocations k h,
-          ← ep,
-          ← et,
-          ← en,
-          none-found _ (λ j. refusal q20 k j) _ (field-is (tablesOf types tags) allocations memory k p t) n 0 f first-unmet (omega arith),
-          add-one k,
-        )
+        let none = none-found _ (λ j. refusal q20 k j) _ (field-is (tablesOf types tags) allocations memory k p t) n 0 f first-unmet (omega arith) in
+        record { rest = row-rest ∙ rw (← S .size, none, add-one k); within = omega (arith, S .row .whole) }
 
-    pub records-stop : f < n → refusing (refusal q20 k f) ≡ verdictOf whole
+    pub records-stop : f < n → refusing (refusal q20 k f) ≡ verdictOf (recordsAsk (tablesOf types tags) allocations memory allocations 0)
     unfolding recordsAsk tablesOf then verdictOf
     records-stop l =
-        rw (
-          e,
-          rows-from allocations k h,
-          ← ep,
-          ← et,
-          ← en,
-          found _ (λ j. refusal q20 k j) _ (field-is (tablesOf types tags) allocations memory k p t) n 0 f first-unmet (omega arith),
-        )
+        let at = found _ (λ j. refusal q20 k j) _ (field-is (tablesOf types tags) allocations memory k p t) n 0 f first-unmet (omega arith) in
+        rw (row-rest, ← S .size, at)
 
-  pub records-end : length allocations ≤ k * 2 → passed ≡ verdictOf whole
+  pub records-end : length allocations ≤ k * 2 → passed ≡ verdictOf (recordsAsk (tablesOf types tags) allocations memory allocations 0)
   unfolding recordsAsk verdictOf
-  records-end h = rw (e, drop-of-length-le allocations h)
+  records-end h = rw (L .rest, drop-of-length-le allocations h)
 
 -- ---- the memory check
 
 module _ (types tags allocations memory : List ℕ) where
   -- past k questions, those left come to what all come to
   abbrev pub MemoryPast : ℕ → Type 0
-  MemoryPast k =
-      ComesTo (memoryCheck types tags allocations memory) (drop k (
-      layoutAsk types tags allocations (length memory)
-      ∷ recordsAsk (tablesOf types tags) allocations memory allocations 0
-      ∷ []))
+  MemoryPast k = ComesTo (memoryCheck types tags allocations memory) (drop k (memoryQuestions types tags allocations memory))
 
   pub memory-begins : MemoryPast 0
-  unfolding memoryCheck memoryAsk inOrder
+  unfolding memoryCheck memoryAsk
   memory-begins = record { asked = refl }
 
 -- ---- Q1 for blocks and code, Q5, Q6 and Q16, in order
 
-module _ (types tags blocks code : List ℕ) (b : ℕ) where
+module _ (count : ℕ) (C : Code) (b : ℕ) where
   abbrev pub RoutinePast : ℕ → Type 0
-  RoutinePast k =
-      ComesTo (verdictOf (routineAsk types tags blocks code b)) (drop k (
-      codeLengthsAsk (length blocks) (length code)
-      ∷ lengthsAsk (routineOf blocks code)
-      ∷ annotationsAsk (tablesOf types tags) (routineOf blocks code)
-      ∷ startAsk (routineOf blocks code) b
-      ∷ []))
+  RoutinePast k = ComesTo (verdictOf (routineAsk count C b)) (drop k (routineQuestions count C b))
 
   pub routine-begins : RoutinePast 0
-  unfolding routineAsk inOrder
+  unfolding routineAsk
   routine-begins = record { asked = refl }
 
--- what the passed questions of a routine give
-module _ (types tags blocks code : List ℕ) (b : ℕ) (q : routineAsk types tags blocks code b ≡ ok tt) where
-  routine-parts : (annotationsAsk (tablesOf types tags) (routineOf blocks code) ≡ ok tt) × (b < rows blocks)
-  unfolding routineAsk startAsk routineOf
-  routine-parts =
-      let (a, q₁) = passed-then _ _ q in
-      let (c, q₂) = passed-then _ _ q₁ in
-      let (d, e) = passed-then _ _ q₂ in
-      (d, ltb-true b (rows blocks) (ask-ok _ _ _ e .0))
+  -- what the passed questions of a routine give
+  module _ (q : routineAsk count C b ≡ ok tt) where
+    routine-parts : (annotationsAsk count (C .blocks) ≡ ok tt) × (b < rows (C .blocks))
+    unfolding routineAsk startAsk
+    routine-parts =
+        let (a, (c, (d, (e, u)))) = all-passed (routineQuestions count C b) q in
+        (d, ltb-true b (rows (C .blocks)) (ask-ok _ _ _ e .0))
 
-  pub routine-block : b < rows blocks
-  routine-block = routine-parts .1
+    pub routine-block : b < rows (C .blocks)
+    routine-block = routine-parts .1
 
-  pub routine-well : (i : ℕ) → i < 8 → wellMade (rows types) 8 (getD (wordsOf blocks b) i 0) ≡ true
-  routine-well i l = annotation-well-made types tags blocks code _ refl (ok-verdict _ (routine-parts .0)) b i routine-block l
+    pub routine-well : (i : ℕ) → i < 8 → wellMade count 8 (getD (wordsOf (C .blocks) b) i 0) ≡ true
+    routine-well i l = annotation-well-made count (C .blocks) (routine-parts .0) b i routine-block l
 
 -- ---- Q21
 
@@ -160,18 +153,10 @@ module _ (𝒯 : Tables) (allocations annotation registers : List ℕ) (k : ℕ)
 
 -- ---- the entry check
 
-module _ (types tags allocations memory blocks code : List ℕ) (b : ℕ) (registers : List ℕ) where
+module _ (types tags allocations memory : List ℕ) (C : Code) (g : Ready) where
   abbrev pub EntryPast : ℕ → Type 0
-  EntryPast k =
-      ComesTo (entryCheck types tags allocations memory blocks code b registers) (drop k (
-      layoutAsk types tags allocations (length memory)
-      ∷ routineAsk types tags blocks code b
-      ∷ firstNo 8 0 (registerAsk (tablesOf types tags) allocations (wordsOf blocks b) registers)
-      ∷ []))
+  EntryPast k = ComesTo (entryCheck types tags allocations memory C g) (drop k (entryQuestions types tags allocations memory C g))
 
-  -- the questions of the routine are asked as one
   pub entry-begins : EntryPast 0
-  unfolding entryCheck entryAsk routineAsk routineOf inOrder
-  entry-begins = let layout = layoutAsk types tags allocations (length memory) in record {
-    asked = ap (λ (o : Outcome (Unit {0})). verdictOf (then layout (λ _. o))) (as-one (_ ∷ _ ∷ _ ∷ _ ∷ []) _ []);
-  }
+  unfolding entryCheck entryAsk
+  entry-begins = record { asked = refl }

@@ -5,19 +5,16 @@ ghost use mathlib.Core.List.{List};
 ghost use Prim.Native.Nat.{ℕ, _+_, _*_, _≤_, _<_};
 ghost use lib.ListN.{length, getD};
 ghost use Rattle.model.specs.Question.{ok, firstNo, verdictOf};
-ghost use Rattle.model.specs.Table.{rows, wordsOf, tablesOf, wellMade};
-ghost use Rattle.model.specs.MemoryCheck.{recordsAsk, registerAsk, layoutAsk, memoryCheck, entryCheck};
+ghost use Rattle.model.specs.Table.{rows, wordsOf, tablesOf, wellMade, codeOf};
+ghost use Rattle.model.specs.Machine.{ready};
+ghost use Rattle.model.specs.MemoryCheck.{recordsAsk, registerAsk, layoutAsk, memoryCheck, entryCheck, routineAsk};
 ghost use Rattle.meaning.specs.Owners.{Owned};
-ghost use Rattle.meaning.specs.Search.{Sized};
-ghost use Rattle.memory.specs.Entry.{routineAsk};
+ghost use Rattle.meaning.specs.Search.{EachHasField};
 use meaning::owner;
 use model::Verdict;
+use model::limit;
+use model::number;
 use table::answer;
-
-// The numbers of the questions.
-const FIELD: u32 = 20;
-
-const REGISTER: u32 = 21;
 
 // ---- the memory check
 
@@ -25,7 +22,7 @@ const REGISTER: u32 = 21;
 fn records(
     types: &[u32],
     tags: &[u32],
-    owners: &[u32; 16384],
+    owners: &[u32; limit::MEMORY],
     allocations: &[u32],
     memory: &[u32],
 ) -> Verdict
@@ -34,7 +31,7 @@ fn records(
     ensures { λ r. ⌜ r ≡ verdictOf (recordsAsk (tablesOf (now (types .entry)) (now (tags .entry)))
         (now (allocations .entry)) (now (memory .entry)) (now (allocations .entry)) 0) ⌝ }
 {
-    let count = allocations.len() / layout::ALLOCATION_WORDS;
+    let count = allocations.len() / limit::ALLOCATION_WORDS;
     let mut k = 0;
     while k < count {
         let start = layout::start(allocations, k) as usize;
@@ -42,7 +39,7 @@ fn records(
         let n = table::head(types, t) as usize;
         let f = meaning::first_unmet(types, tags, owners, types, t, &memory[start..], n);
         if f < n {
-            return answer::refused_at(FIELD, k, f);
+            return answer::refused_at(number::FIELD, k, f);
         }
         k += 1;
     }
@@ -54,36 +51,36 @@ pub fn memory_check(types: &[u32], tags: &[u32], allocations: &[u32], memory: &[
     ensures { λ r. ⌜ r ≡ memoryCheck (now (types .entry)) (now (tags .entry)) (now (allocations .entry)) (now (memory .entry)) ⌝ }
 {
     let laid = layout::layout(types, tags, allocations, memory.len());
-    if laid.number != 0 {
+    if laid.number != number::PASSED {
         return laid;
     }
-    let mut owners = [0u32; 16384];
+    let mut owners = [0u32; limit::MEMORY];
     owner::fill(types, allocations, &mut owners);
     records(types, tags, &owners, allocations, memory)
 }
 
 // ---- the entry check
 
-// Q1 for blocks and code, Q5, Q6 and Q16. The contract holds for any tags: they have no part in these.
+// Q1 for blocks and code, Q5, Q6 and Q16.
 fn routine(types: &[u32], blocks: &[u32], code: &[u32], block: u32) -> Verdict
     requires { ⌜ length (now types) ≤ 576 ⌝ }
-    ensures { λ r. ⌜ ((tags : List ℕ) → r ≡ verdictOf (routineAsk (now (types .entry)) tags (now (blocks .entry)) (now (code .entry)) block)) ⌝ }
+    ensures { λ r. ⌜ r ≡ verdictOf (routineAsk (rows (now (types .entry))) (codeOf (now (blocks .entry)) (now (code .entry))) block) ⌝ }
 {
     let lengths = table::code_lengths(blocks.len(), code.len());
-    if lengths.number != 0 {
+    if lengths.number != number::PASSED {
         return lengths;
     }
-    let mut starts = [0u32; 257];
+    let mut starts = [0u32; limit::BLOCKS + 1];
     let covered = table::lengths(blocks, code, &mut starts);
-    if covered.number != 0 {
+    if covered.number != number::PASSED {
         return covered;
     }
-    let made = table::annotations((types.len() / table::ROW_WORDS) as u32, blocks);
-    if made.number != 0 {
+    let made = table::annotations((types.len() / limit::ROW_WORDS) as u32, blocks);
+    if made.number != number::PASSED {
         return made;
     }
-    if blocks.len() / table::ROW_WORDS <= (block as usize) {
-        return answer::refused(table::START_BLOCK, 0);
+    if blocks.len() / limit::ROW_WORDS <= (block as usize) {
+        return answer::refused(number::START_BLOCK, 0);
     }
     answer::passed()
 }
@@ -92,12 +89,12 @@ fn routine(types: &[u32], blocks: &[u32], code: &[u32], block: u32) -> Verdict
 fn registers_met(
     types: &[u32],
     tags: &[u32],
-    owners: &[u32; 16384],
+    owners: &[u32; limit::MEMORY],
     blocks: &[u32],
     block: usize,
     registers: [u32; 8],
 ) -> Verdict
-    requires { ⌜ Sized (now types) × (block * 9 + 9 ≤ length (now blocks))
+    requires { ⌜ EachHasField (now types) × (block * 9 + 9 ≤ length (now blocks))
         × ((i : ℕ) → i < 8 → wellMade (rows (now types)) 8 (getD (wordsOf (now blocks) block) i 0) ≡ true) ⌝ }
     ensures { λ r. ⌜ ((allocations : List ℕ) → Owned (tablesOf (now (types .entry)) (now (tags .entry))) allocations (now (owners .entry))
         → r ≡ verdictOf (firstNo 8 0 (registerAsk (tablesOf (now (types .entry)) (now (tags .entry)))
@@ -110,10 +107,10 @@ fn registers_met(
         blocks,
         block,
         &registers,
-        table::TYPE_WORDS,
+        limit::REGISTERS,
     );
-    if r < table::TYPE_WORDS {
-        return answer::refused(REGISTER, r);
+    if r < limit::REGISTERS {
+        return answer::refused(number::REGISTER, r);
     }
     answer::passed()
 }
@@ -130,17 +127,17 @@ pub fn entry_check(
     registers: [u32; 8],
 ) -> Verdict
     ensures { λ r. ⌜ r ≡ entryCheck (now (types .entry)) (now (tags .entry)) (now (allocations .entry)) (now (memory .entry))
-        (now (blocks .entry)) (now (code .entry)) block registers ⌝ }
+        (codeOf (now (blocks .entry)) (now (code .entry))) (ready block registers) ⌝ }
 {
     let laid = layout::layout(types, tags, allocations, memory.len());
-    if laid.number != 0 {
+    if laid.number != number::PASSED {
         return laid;
     }
     let made = routine(types, blocks, code, block);
-    if made.number != 0 {
+    if made.number != number::PASSED {
         return made;
     }
-    let mut owners = [0u32; 16384];
+    let mut owners = [0u32; limit::MEMORY];
     owner::fill(types, allocations, &mut owners);
     registers_met(types, tags, &owners, blocks, block as usize, registers)
 }

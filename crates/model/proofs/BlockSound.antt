@@ -10,16 +10,15 @@ use lib.Dec.{ltb, eqb}
 use lib.ListN.{length, getD}
 use borrow.Author.Tests.{ltb-true, lt-ltb, le-ltb, eqb-true, eqb-false}
 use Rattle.model.specs.declared.Reference.the-variants.{To}
-use Rattle.model.specs.Question.{pick, q7, q8, q9, q13, Outcome, ok, refused}
+use Rattle.model.specs.Question.{pick, Outcome, ok, provided}
 use Rattle.model.specs.Word.{sum}
-use Rattle.model.specs.Table.{Tables, Routine}
+use Rattle.model.specs.Table.{Tables, Routine, lastAt}
 use Rattle.model.specs.Meaning.{Allocation}
-use Rattle.model.specs.Machine.{Plain, load, store, End, Instruction, plain, end, malformed, instructionAt, reg, effect, addressed}
-use Rattle.model.specs.Machine.{registersAfter, memoryAfter, Next, stop, enter, next, targetsExist, State, Step, goes, halts, need, after}
-use Rattle.model.specs.Machine.{atHalt, entering, leave, perform, step, indexOf}
+use Rattle.model.specs.Machine.{Plain, load, store, End, Instruction, plain, end, malformed, instructionAt, reg, effect, registersAfter}
+use Rattle.model.specs.Machine.{memoryAfter, Next, stop, enter, next, State, goes, halts, after, atHalt, entering, leave, perform, step}
+use Rattle.model.specs.Machine.{indexOf, carryOut, formAsk}
 use Rattle.model.specs.Reading.{Reading, entry, isOpen}
-use Rattle.model.specs.Check.{valueIn, onRecord, readPlain, readEdges, readInstruction, readAt, readOn, blockAsk, readingAt, referenceAfter}
-use Rattle.model.specs.Check.{given, lastAt, noAt}
+use Rattle.model.specs.Check.{onRecord, readPlain, readInstruction, readAt, readOn, blockAsk, readingAt, referenceAfter, given, noAt, readEnd}
 use Rattle.model.proofs.Logic.{byTest, byEqual, ask-ok, then-ok, passed-then, ok-then, ok-same, not-ok, not-true}
 use Rattle.model.proofs.Inversion.{OnRecord, record-ok}
 use Rattle.model.proofs.Tidy.{Tidy, plain-tidy, entry-tidy}
@@ -28,13 +27,8 @@ use Rattle.model.proofs.Lawful.{Lawful, Tabled}
 use Rattle.model.proofs.Decode.{Fine, PlainFine, EndFine, decode-fine}
 use Rattle.model.proofs.Invariant.{Invariant}
 use Rattle.model.proofs.StepSound.{wordsMade, Made, Sound, Access, access-ok, plain-sound}
-use Rattle.model.proofs.EdgeSound.{Annotated, Stands, MemoryFit, Went, entry-ok, edges-ok}
-
--- the lengths of blocks, as Q5 leaves them
-pub record Sized (P : Routine) : Type 0 where
-  pub least : (b : ℕ) → b < P .count → 1 ≤ P .long b
-  pub most : (b : ℕ) → b < P .count → P .long b ≤ 32
-  pub inside : (b : ℕ) → b < P .count → P .start b + P .long b ≤ P .total
+use Rattle.model.proofs.TableLaws.{Sized, Annotated}
+use Rattle.model.proofs.EdgeSound.{Stands, MemoryFit, Went, entry-ok, edges-ok}
 
 -- ---- the words of a block's values
 
@@ -76,13 +70,13 @@ module _ (P : Routine) (b : ℕ) (o : Store) where
 -- ---- what acceptance says of each instruction
 
 module _ (𝒯 : Tables) (P : Routine) where
-  pub record Passed (b j : ℕ) : Type 0 where
+  pub record PassedAt (b j : ℕ) : Type 0 where
     pub before : Reading
     pub reads : readingAt 𝒯 P b j ≡ ok before
     pub afterwards : Reading
     pub passes : readAt 𝒯 P b j before ≡ ok afterwards
 
-  passed-on : (b n j : ℕ) (st : Reading) → readingAt 𝒯 P b j ≡ ok st → readOn 𝒯 P b n j st ≡ ok tt → (i : ℕ) → i < n → Passed b (j + i)
+  passed-on : (b n j : ℕ) (st : Reading) → readingAt 𝒯 P b j ≡ ok st → readOn 𝒯 P b n j st ≡ ok tt → (i : ℕ) → i < n → PassedAt b (j + i)
   unfolding readOn readingAt
   passed-on b zero j st r q i h = absurd (omega arith)
   passed-on b (suc n) j st r q zero h =
@@ -93,13 +87,14 @@ module _ (𝒯 : Tables) (P : Routine) where
       rw e (passed-on b n (suc j) st' (ok-then _ _ st r ∙ p) q₁ i (omega arith))
 
   -- at each instruction of a passed block no question has a no
-  pub passed-block : (b : ℕ) → blockAsk 𝒯 P b ≡ ok tt → (j : ℕ) → j < P .long b → Passed b j
+  pub passed-block : (b : ℕ) → blockAsk 𝒯 P b ≡ ok tt → (j : ℕ) → j < P .long b → PassedAt b j
   unfolding blockAsk readingAt
   passed-block b q j h = rw (← zero-add j) (passed-on b (P .long b) 0 (entry (P .annotation b)) refl q j h)
 
 -- ---- the block
 
-module _ (𝒯 : Tables) (Is : Allocation) (memory₀ : List ℕ) (narrow : length memory₀ < 2 ^ 32) (law : Lawful 𝒯 Is (length memory₀)) (tab : Tabled 𝒯 Is) (P : Routine) (A : Annotated P) (S : Sized P) where
+module _ (𝒯 : Tables) (Is : Allocation) (memory₀ : List ℕ) (narrow : length memory₀ < 2 ^ 32) (law : Lawful 𝒯 Is (length memory₀))
+    (tab : Tabled 𝒯 Is) (P : Routine) (A : Annotated P) (S : Sized P) where
   -- a state inside a block, mirrored by the reading of the block up to there
   pub record At (s : State) : Type 0 where
     pub exists : s .block < P .count
@@ -139,12 +134,17 @@ module _ (𝒯 : Tables) (Is : Allocation) (memory₀ : List ℕ) (narrow : leng
         → Stands 𝒯 Is P (s' .block) (s' .registers) → MemoryFit 𝒯 Is memory₀ (s' .memory) → Stepped s
     stops : {s' : State} → step P s ≡ halts s' → suc (s .offset) ≡ P .long (s .block) → MemoryFit 𝒯 Is memory₀ (s' .memory) → Stepped s
 
+  -- the questions of an instruction at a state
+  abbrev pub readHere : State → Instruction → Reading → Outcome Reading
+  readHere s x st =
+      readInstruction 𝒯 P (noAt 𝒯 P (s .block) (s .offset)) (s .block) (suc (s .offset)) (lastAt P (s .block) (s .offset)) x st
+
   index-inside : (s : State) → At s → ltb (indexOf P s) (P .total) ≡ true
   index-inside s a = lt-ltb (indexOf P s) (P .total) (let x = S .inside (s .block) (a .exists) in let y = a .within in omega arith)
 
   plain-step : (s : State) (a : At s) (x : Plain) (st' : Reading) → instructionAt P (s .block) (s .offset) ≡ plain x → PlainFine x
-      → readInstruction 𝒯 P (s .block) (s .offset) (plain x) (a .reading) ≡ ok st' → Stepped s
-  unfolding readInstruction step perform need readingAt trace
+      → readHere s (plain x) (a .reading) ≡ ok st' → Stepped s
+  unfolding readInstruction formAsk step perform carryOut provided readingAt trace
   plain-step s a x st' e f q =
       let (inside, q₁) = ask-ok _ _ _ q in
       let notEnd = not-true _ inside in
@@ -153,7 +153,8 @@ module _ (𝒯 : Tables) (Is : Allocation) (memory₀ : List ℕ) (narrow : leng
       let ρ = valuation P (s .block) (a .origin) in
       let made : Made ρ (suc (s .offset)) x (s .registers) (s .memory) =
       λ i h. valuation-made P (s .block) (a .origin) (s .offset) i h ∙ rw (e, a .regs, a .mem) in
-      let K = plain-sound 𝒯 Is memory₀ narrow law tab ρ _ (suc (s .offset)) x (a .reading) st' (s .registers) (s .memory) (omega arith) small f (a .tidy) (a .mirrors) made q₁ in
+      let K = plain-sound 𝒯 Is memory₀ narrow law tab ρ _ (suc (s .offset)) x (a .reading) st' (s .registers) (s .memory)
+      (omega arith) small f (a .tidy) (a .mirrors) made q₁ in
       inner {s' = after s (effect x (s .registers))} (rw (index-inside s a, e, notEnd, K .runs)) refl refl refl
       (record {
         exists = a .exists;
@@ -175,8 +176,8 @@ module _ (𝒯 : Tables) (Is : Allocation) (memory₀ : List ℕ) (narrow : leng
   shut-fit st ρ r m z I = record { records = I .shut z .records; kept = I .kept }
 
   end-step : (s : State) (a : At s) (e : End) (st' : Reading) → instructionAt P (s .block) (s .offset) ≡ end e → EndFine e
-      → readInstruction 𝒯 P (s .block) (s .offset) (end e) (a .reading) ≡ ok st' → Stepped s
-  unfolding readInstruction step perform need
+      → readHere s (end e) (a .reading) ≡ ok st' → Stepped s
+  unfolding readInstruction formAsk readEnd step perform provided
   end-step s a e st' i f q =
       let (last, q₁) = ask-ok _ _ _ q in
       let (there, q₂) = ask-ok _ _ _ q₁ in
@@ -184,25 +185,27 @@ module _ (𝒯 : Tables) (Is : Allocation) (memory₀ : List ℕ) (narrow : leng
       let (edges, q₄) = passed-then _ _ q₃ in
       let ρ = valuation P (s .block) (a .origin) in
       let M = shut-fit (a .reading) ρ (s .registers) (s .memory) (not-true _ shut) (a .mirrors) in
-      let W = edges-ok 𝒯 Is memory₀ narrow law tab ρ P A _ (a .reading) (s .registers) (s .memory) (suc (s .offset)) (s .block) e f (a .mirrors) (a .tidy) there edges in
+      let W = edges-ok 𝒯 Is memory₀ narrow law tab ρ P A _ (a .reading) (s .registers) (s .memory) (suc (s .offset)) (s .block) e f
+      (a .mirrors) (a .tidy) there edges in
       go (next e (s .block) (s .registers)) (rw (index-inside s a, i, last, there)) (eqb-true _ _ last) M W
     where
-      go : (n : Next) → step P s ≡ leave s n → suc (s .offset) ≡ P .long (s .block) → MemoryFit 𝒯 Is memory₀ (s .memory) → Went 𝒯 Is P (s .registers) n → Stepped s
+      go : (n : Next) → step P s ≡ leave s n → suc (s .offset) ≡ P .long (s .block) → MemoryFit 𝒯 Is memory₀ (s .memory)
+          → Went 𝒯 Is P (s .registers) n → Stepped s
       go stop h l M W = stops {s' = atHalt s} (unfold leave in h) l M
       go (enter t) h l M W = leaves {s' = entering s t} (unfold leave in h) l refl refl W M
 
   module _ (accepted : (b : ℕ) → b < P .count → blockAsk 𝒯 P b ≡ ok tt) where
     -- the questions put at a state's instruction had no no
-    pub passed-at : (s : State) (a : At s) → (st' : Reading) × (readInstruction 𝒯 P (s .block) (s .offset) (instructionAt P (s .block) (s .offset)) (a .reading) ≡ ok st')
+    pub passed-at : (s : State) (a : At s) → (st' : Reading) × (readHere s (instructionAt P (s .block) (s .offset)) (a .reading) ≡ ok st')
     passed-at s a =
         let Q = passed-block 𝒯 P (s .block) (accepted (s .block) (a .exists)) (s .offset) (a .within) in
         (Q .afterwards, rw (ok-same (sym (a .reads) ∙ Q .reads)) (Q .passes))
 
     pub step-sound : (s : State) → At s → Stepped s
-    unfolding readInstruction
+    unfolding readInstruction formAsk
     step-sound s a = go (instructionAt P (s .block) (s .offset)) refl (decode-fine _) (passed-at s a)
       where
-        go : (x : Instruction) → instructionAt P (s .block) (s .offset) ≡ x → Fine x → (st' : Reading) × (readInstruction 𝒯 P (s .block) (s .offset) x (a .reading) ≡ ok st') → Stepped s
+        go : (x : Instruction) → instructionAt P (s .block) (s .offset) ≡ x → Fine x → (st' : Reading) × (readHere s x (a .reading) ≡ ok st') → Stepped s
         go (plain x) e f (st', q) = plain-step s a x st' e f q
         go (end x) e f (st', q) = end-step s a x st' e f q
         go malformed e f (st', q) = absurd (not-ok q)
@@ -217,11 +220,14 @@ module _ (𝒯 : Tables) (Is : Allocation) (memory₀ : List ℕ) (narrow : leng
       pub below : c < 𝒯 .size type
       pub unwrapped : sum (reg (s .registers) b) c ≡ reg (s .registers) b + c
 
-    field-ok : (s : State) (a : At s) (b c : ℕ) (st' : Reading) (k : ℕ → Outcome Reading) → b < 8 → onRecord 𝒯 (noAt 𝒯 P (s .block) (s .offset)) (a .reading) b c k ≡ ok st' → Field s b c
+    field-ok : (s : State) (a : At s) (b c : ℕ) (st' : Reading) (k : ℕ → Outcome Reading) → b < 8
+        → onRecord 𝒯 (noAt 𝒯 P (s .block) (s .offset)) (a .reading) b c k ≡ ok st' → Field s b c
     unfolding given referenceAfter
     field-ok s a b c st' k h q =
         let R = record-ok 𝒯 _ (a .reading) b c st' k q in
-        let C = access-ok 𝒯 Is memory₀ narrow law tab (valuation P (s .block) (a .origin)) (a .reading) (s .registers) (s .memory) (suc (s .offset)) b c (R .type) (a .tidy) (a .mirrors) h (R .reference) (R .below) in
+        let ρ = valuation P (s .block) (a .origin) in
+        let C = access-ok 𝒯 Is memory₀ narrow law tab ρ (a .reading) (s .registers) (s .memory) (suc (s .offset)) b c (R .type)
+        (a .tidy) (a .mirrors) h (R .reference) (R .below) in
         record {
           type = R .type;
           said = rw (a .reads) (R .reference);
@@ -231,14 +237,14 @@ module _ (𝒯 : Tables) (Is : Allocation) (memory₀ : List ℕ) (narrow : leng
         }
 
     pub load-field : (s : State) → At s → (a b c : ℕ) → instructionAt P (s .block) (s .offset) ≡ plain (load a b c) → Field s b c
-    unfolding readInstruction readPlain
+    unfolding readInstruction formAsk readPlain
     load-field s t a b c e =
         let (st', q) = passed-at s t in
         let f : b < 8 = rw e at (decode-fine (getD (P .part (s .block)) (s .offset) 0)) in
         field-ok s t b c st' _ f (ask-ok _ _ _ (rw e at q) .1)
 
     pub store-field : (s : State) → At s → (a b c : ℕ) → instructionAt P (s .block) (s .offset) ≡ plain (store a b c) → Field s b c
-    unfolding readInstruction readPlain
+    unfolding readInstruction formAsk readPlain
     store-field s t a b c e =
         let (st', q) = passed-at s t in
         let f : (a < 8) × (b < 8) = rw e at (decode-fine (getD (P .part (s .block)) (s .offset) 0)) in

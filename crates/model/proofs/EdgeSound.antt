@@ -10,30 +10,26 @@ use lib.Dec.{ltb, leb, eqb}
 use lib.ListN.{length, getD, set, length-map}
 use lib.Seq.{ext-getD}
 use borrow.Author.Tests.{eqb-true, eqb-false, ltb-true, ltb-false}
-use Rattle.model.specs.Question.{_and_, pick, Question, q14, q15, Refusal, Outcome, ok}
-use Rattle.model.specs.Word.{kindOf, recordOf, firstOf, secondOf}
-use Rattle.model.specs.Types.{Dep, name, con, Ty, any, ref, maybe, tagged, present, same, span, depOf, ofKind, typeOf, wordOf, rename, renameDep}
+use Rattle.model.specs.Question.{_and_, pick, Question, Refusal, ok}
+use Rattle.model.specs.Word.{kindOf, recordOf, firstOf, secondOf, withKind}
+use Rattle.model.specs.Types.{Dep, name, Ty, same, depOf, ofKind, typeOf, wordOf, rename, renameDep}
 use Rattle.model.specs.Table.{Tables, Routine}
-use Rattle.model.specs.Meaning.{Allocation, RunOf, RecordMeets, RegistersMeet}
+use Rattle.model.specs.Meaning.{Allocation, RecordMeets, RegistersMeet}
 use Rattle.model.specs.Machine.{End, halt, jump, ifEqual, ifLess, reg, Next, stop, enter, next, targetsExist}
-use Rattle.model.specs.Reading.{Values, birthplace, typed, knownEqual, rowFits, Reading, laidAt, zeros, upFrom, entry, isOpen, withKind}
-use Rattle.model.specs.Reading.{learned, rekinded, notZero, below, notBelow, taken, untaken}
+use Rattle.model.specs.Reading.{Values, birthplace, typed, knownEqual, Reading, laidAt, zeros, upFrom, entry, learned, rekinded, notZero, below}
+use Rattle.model.specs.Reading.{notBelow, taken, untaken}
 use Rattle.model.specs.Check.{valueIn, edgeMeets, readEdges}
 use Rattle.model.proofs.Logic.{byTest, byEqual, byLess, either, and-true, ask-ok}
 use Rattle.model.proofs.Lists.{set-every, getD-map, getD-past, length-laid, laid-above, laid-at, zeros-at, length-zeros, upFrom-at, length-upFrom}
 use Rattle.model.proofs.RulesDecide.{equal-known}
 use Rattle.model.proofs.Tidy.{Tidy}
-use Rattle.model.proofs.Mean.{TyBelow, Rank, Mean, mean, mean-rename}
+use Rattle.model.proofs.Mean.{kinded, TyBelow, Rank, Mean, mean, mean-rename}
 use Rattle.model.proofs.Lawful.{Lawful, Tabled}
+use Rattle.model.proofs.TableLaws.{Annotated}
 use Rattle.model.proofs.Decode.{EndFine}
 use Rattle.model.proofs.Invariant.{ValuesOk, Shut, Opened, Kept, Invariant}
 use Rattle.model.proofs.FitsSound.{equal-sound, row-sound}
 use Rattle.model.proofs.StepSound.{reg-is}
-
--- a routine whose annotations are well made
-pub record Annotated (P : Routine) : Type 0 where
-  pub names : (b i : ℕ) → b < P .count → i < 8 → TyBelow 8 (typeOf (getD (P .annotation b) i 0))
-  pub eight : (b : ℕ) → length (P .annotation b) ≤ 8
 
 module _ (𝒯 : Tables) (Is : Allocation) where
   -- the registers can go on from block b
@@ -51,16 +47,19 @@ module _ (𝒯 : Tables) (Is : Allocation) where
   Went P r stop = Unit {0}
   Went P r (enter t) = Stands P t r
 
-module _ (𝒯 : Tables) (Is : Allocation) (memory₀ : List ℕ) (narrow : length memory₀ < 2 ^ 32) (law : Lawful 𝒯 Is (length memory₀)) (tab : Tabled 𝒯 Is) (ρ : ℕ → ℕ) where
+module _ (𝒯 : Tables) (Is : Allocation) (memory₀ : List ℕ) (narrow : length memory₀ < 2 ^ 32) (law : Lawful 𝒯 Is (length memory₀))
+    (tab : Tabled 𝒯 Is) (ρ : ℕ → ℕ) where
   -- ---- entry
 
   entry-word : (annotation : List ℕ) (j : ℕ) → length annotation ≤ 8 → getD (laidAt (zeros 256) 0 annotation) j 0 ≡ getD annotation j 0
   entry-word annotation j h =
       byLess j (length annotation)
-      (λ l. ap (λ (x : ℕ). getD (laidAt (zeros 256) 0 annotation) x 0) (sym (zero-add j)) ∙ laid-at (zeros 256) 0 annotation j l (let e = length-zeros 256 in omega arith))
+      (λ l. ap (λ (x : ℕ). getD (laidAt (zeros 256) 0 annotation) x 0) (sym (zero-add j))
+      ∙ laid-at (zeros 256) 0 annotation j l (let e = length-zeros 256 in omega arith))
       (λ l. laid-above (zeros 256) 0 annotation j (omega arith) ∙ zeros-at 256 j ∙ sym (getD-past annotation j 0 l))
 
-  pub entry-ok : (annotation r m : List ℕ) → length annotation ≤ 8 → ((i : ℕ) → i < 8 → TyBelow 8 (typeOf (getD annotation i 0))) → ((i : ℕ) → i < 8 → ρ i ≡ getD r i 0)
+  pub entry-ok : (annotation r m : List ℕ) → length annotation ≤ 8 → ((i : ℕ) → i < 8 → TyBelow 8 (typeOf (getD annotation i 0)))
+      → ((i : ℕ) → i < 8 → ρ i ≡ getD r i 0)
       → length r ≡ 8 → RegistersMeet 𝒯 Is annotation r → MemoryFit 𝒯 Is memory₀ m → Invariant 𝒯 Is memory₀ ρ (entry annotation) r m
   unfolding entry typed
   entry-ok annotation r m h b same′ e R M =
@@ -92,16 +91,6 @@ module _ (𝒯 : Tables) (Is : Allocation) (memory₀ : List ℕ) (narrow : leng
   abbrev frame : Values → ℕ → ℕ → ℕ
   frame vs v x = getD (vs .frames) (birthplace v) 0 + x
 
-  -- the type that a word has with another kind
-  kinded : (k w : ℕ) → typeOf (withKind k w) ≡ ofKind k (recordOf w) (depOf (firstOf w)) (depOf (secondOf w))
-  unfolding typeOf
-  kinded k w =
-      let a : kindOf (withKind k w) ≡ k = omega arith in
-      let t : recordOf (withKind k w) ≡ recordOf w = omega arith in
-      let d : firstOf (withKind k w) ≡ firstOf w = omega arith in
-      let e : secondOf (withKind k w) ≡ secondOf w = omega arith in
-      rw (a, t, d, e)
-
   abbrev wordAt : Values → ℕ → ℕ
   wordAt vs v = getD (vs .words) v 0
 
@@ -113,7 +102,9 @@ module _ (𝒯 : Tables) (Is : Allocation) (memory₀ : List ℕ) (narrow : leng
   unfolding typed
   rekinded-ok vs v k H M =
       record {
-        types = set-every (λ j x. Mean 𝒯 Is (rename (frame vs j) (typeOf x)) ρ (ρ j)) (vs .words) v (withKind k (wordAt vs v)) 0 (H .types) (rw (kinded k (wordAt vs v)) M);
+        types =
+            set-every (λ j x. Mean 𝒯 Is (rename (frame vs j) (typeOf x)) ρ (ρ j)) (vs .words) v (withKind k (wordAt vs v)) 0 (H .types)
+            (rw (kinded k (wordAt vs v)) M);
         constants = H .constants;
         tested = H .tested;
       }
@@ -124,7 +115,8 @@ module _ (𝒯 : Tables) (Is : Allocation) (memory₀ : List ℕ) (narrow : leng
   own-kind vs v = refl
 
   -- each refinement, by the kind of the value: the same values, or one of another kind
-  notZero-kind : (vs : Values) (v k : ℕ) → ValuesOk 𝒯 Is ρ vs → (ρ v ≡ 0 → ⊥) → Mean 𝒯 Is (withRank vs v k) ρ (ρ v) → ValuesOk 𝒯 Is ρ (notZero vs v (withRank vs v k))
+  notZero-kind : (vs : Values) (v k : ℕ) → ValuesOk 𝒯 Is ρ vs → (ρ v ≡ 0 → ⊥) → Mean 𝒯 Is (withRank vs v k) ρ (ρ v)
+      → ValuesOk 𝒯 Is ρ (notZero vs v (withRank vs v k))
   unfolding rename notZero
   notZero-kind vs v zero H n m = H
   notZero-kind vs v (suc zero) H n m = H
@@ -140,7 +132,8 @@ module _ (𝒯 : Tables) (Is : Allocation) (memory₀ : List ℕ) (narrow : leng
   known-word : (vs : Values) (w : ℕ) (d : Dep) → ValuesOk 𝒯 Is ρ vs → knownEqual vs (name w) d ≡ true → ρ w ≡ wordOf ρ d
   known-word vs w d H e = equal-sound 𝒯 Is (length memory₀) narrow law tab ρ vs H (name w) d (equal-known 𝒯 vs (name w) d e)
 
-  below-kind : (vs : Values) (v w k : ℕ) → ValuesOk 𝒯 Is ρ vs → ρ v < ρ w → Mean 𝒯 Is (withRank vs v k) ρ (ρ v) → ValuesOk 𝒯 Is ρ (below vs v w (withRank vs v k))
+  below-kind : (vs : Values) (v w k : ℕ) → ValuesOk 𝒯 Is ρ vs → ρ v < ρ w → Mean 𝒯 Is (withRank vs v k) ρ (ρ v)
+      → ValuesOk 𝒯 Is ρ (below vs v w (withRank vs v k))
   unfolding rename below
   below-kind vs v w zero H l m = H
   below-kind vs v w (suc zero) H l m = H
@@ -158,7 +151,8 @@ module _ (𝒯 : Tables) (Is : Allocation) (memory₀ : List ℕ) (narrow : leng
   below-ok : (vs : Values) (v w : ℕ) → ValuesOk 𝒯 Is ρ vs → ρ v < ρ w → ValuesOk 𝒯 Is ρ (below vs v w (typed vs v))
   below-ok vs v w H l = rw (own-kind vs v) (below-kind vs v w (kindOf (wordAt vs v)) H l (rw (own-kind vs v) at (H .types v)))
 
-  notBelow-kind : (vs : Values) (v w k : ℕ) → ValuesOk 𝒯 Is ρ vs → ρ w ≤ ρ v → Mean 𝒯 Is (withRank vs v k) ρ (ρ v) → ValuesOk 𝒯 Is ρ (notBelow vs v w (withRank vs v k))
+  notBelow-kind : (vs : Values) (v w k : ℕ) → ValuesOk 𝒯 Is ρ vs → ρ w ≤ ρ v → Mean 𝒯 Is (withRank vs v k) ρ (ρ v)
+      → ValuesOk 𝒯 Is ρ (notBelow vs v w (withRank vs v k))
   unfolding rename notBelow
   notBelow-kind vs v w zero H l m = H
   notBelow-kind vs v w (suc zero) H l m = H
@@ -211,5 +205,7 @@ module _ (𝒯 : Tables) (Is : Allocation) (memory₀ : List ℕ) (narrow : leng
         let ix : reg r x ≡ ρ (valueIn st x) = reg-is 𝒯 Is memory₀ narrow law tab ρ st r m g I T x (f .0) in
         let iy : reg r y ≡ ρ (valueIn st y) = reg-is 𝒯 Is memory₀ narrow law tab ρ st r m g I T y (f .1) in
         byTest (ltb (reg r x) (reg r y))
-        (λ p. rw p (edge-ok st r m g _ c I T (below-ok (st .values) (valueIn st x) (valueIn st y) (I .values) (rw (ix, iy) at (ltb-true (reg r x) (reg r y) p))) (ltb-true _ _ t₁) y₁))
-        (λ p. rw p (edge-ok st r m g _ (suc b) I T (notBelow-ok (st .values) (valueIn st x) (valueIn st y) (I .values) (rw (ix, iy) at (ltb-false (reg r x) (reg r y) p))) (ltb-true _ _ t₂) y₂))
+        (λ p. let H = below-ok (st .values) (valueIn st x) (valueIn st y) (I .values) (rw (ix, iy) at (ltb-true (reg r x) (reg r y) p)) in
+        rw p (edge-ok st r m g _ c I T H (ltb-true _ _ t₁) y₁))
+        (λ p. let H = notBelow-ok (st .values) (valueIn st x) (valueIn st y) (I .values) (rw (ix, iy) at (ltb-false (reg r x) (reg r y) p)) in
+        rw p (edge-ok st r m g _ (suc b) I T H (ltb-true _ _ t₂) y₂))

@@ -7,13 +7,15 @@ use Prim.Native.Nat.{ℕ, zero, suc, _+_, _≤_, _<_}
 use native.Mathlib.Omega.{arith}
 use native.Mathlib.Nat.{add-zero, zero-add}
 use lib.ListN.{length}
-use Rattle.model.specs.Question.{Refusal, refusing, Outcome, ok, refused, then, firstNo, verdictOf}
-use Rattle.model.specs.Table.{Tables, tablesOf, Routine, routineOf, typeLengthsAsk, codeLengthsAsk, typesAsk, lengthsAsk, annotationsAsk}
+use Rattle.model.specs.Question.{Refusal, refusing, Outcome, ok, refused, then, verdictOf}
+use Rattle.model.specs.Table.{Tables, tablesOf, Routine, routineOf, typeLengthsAsk, codeLengthsAsk, typesAsk, lengthsAsk, annotationsAsk, Code}
+use Rattle.model.specs.Table.{rows}
 use Rattle.model.specs.Reading.{Reading, entry}
-use Rattle.model.specs.Check.{readAt, readOn, blockAsk, judge, readingAt, checkAsk, check}
+use Rattle.model.specs.Check.{readAt, readOn, blockAsk, judge, readingAt, checkAsk, check, tableQuestions, tablesAsk}
 use Rattle.model.proofs.Logic.{byEqual, either, then-ok, ok-then, passed-then, then-refused, firstNo-ok, ok-firstNo, FirstNo, firstNo-refused}
+use Rattle.model.proofs.Logic.{all-passed, passed-all, AllPassed, FirstRefused, first-refused}
 use Rattle.model.proofs.Logic.{not-ok, ok-same, refused-same, verdict-ok, ok-verdict}
-use Rattle.model.proofs.BlockSound.{Passed, passed-block}
+use Rattle.model.proofs.BlockSound.{PassedAt, passed-block}
 
 module _ (𝒯 : Tables) (P : Routine) where
   -- the questions put at an instruction, after those before it in its block
@@ -63,7 +65,8 @@ module _ (𝒯 : Tables) (P : Routine) where
   block-refused b zero j st r e q = absurd (not-ok (sym q))
   block-refused b (suc n) j st r e q = go (readAt 𝒯 P b j st) refl (λ st' e' q'. block-refused b n (suc j) st' r e' q') q
     where
-      go : (o : Outcome Reading) → readAt 𝒯 P b j st ≡ o → ((st' : Reading) → questionsAt b j ≡ ok st' → readOn 𝒯 P b n (suc j) st' ≡ refused r → FirstFrom b n (suc j) r)
+      go : (o : Outcome Reading) → readAt 𝒯 P b j st ≡ o
+          → ((st' : Reading) → questionsAt b j ≡ ok st' → readOn 𝒯 P b n (suc j) st' ≡ refused r → FirstFrom b n (suc j) r)
           → then o (λ st'. readOn 𝒯 P b n (suc j) st') ≡ refused r → FirstFrom b (suc n) j r
       go (ok st') h rest q =
           let asked-here : questionsAt b j ≡ ok st' = ok-then _ _ st e ∙ h in
@@ -105,69 +108,49 @@ module _ (𝒯 : Tables) (P : Routine) where
 
 -- ---- the public call
 
-pub record Accepted (types tags blocks code : List ℕ) : Type 0 where
+pub record Accepted (types tags : List ℕ) (C : Code) : Type 0 where
   pub typeLengths : typeLengthsAsk (length types) (length tags) ≡ ok tt
-  pub codeLengths : codeLengthsAsk (length blocks) (length code) ≡ ok tt
-  pub typeRows : typesAsk (tablesOf types tags) ≡ ok tt
-  pub lengths : lengthsAsk (routineOf blocks code) ≡ ok tt
-  pub annotations : annotationsAsk (tablesOf types tags) (routineOf blocks code) ≡ ok tt
-  pub instructions : (b j : ℕ) → b < routineOf blocks code .count → j < routineOf blocks code .long b → NoNo (tablesOf types tags) (routineOf blocks code) b j
+  pub codeLengths : codeLengthsAsk (length (C .blocks)) (length (C .code)) ≡ ok tt
+  pub typeRows : typesAsk types tags ≡ ok tt
+  pub lengths : lengthsAsk (C .blocks) (length (C .code)) ≡ ok tt
+  pub annotations : annotationsAsk (rows types) (C .blocks) ≡ ok tt
+  pub instructions : (b j : ℕ) → b < routineOf C .count → j < routineOf C .long b → NoNo (tablesOf types tags) (routineOf C) b j
 
-pub check-exactly : (types tags blocks code : List ℕ) → (check types tags blocks code .number ≡ 0) ↔ Accepted types tags blocks code
-unfolding check checkAsk
-check-exactly types tags blocks code = (
-  λ e. let (a, q₁) = passed-then _ _ (verdict-ok _ e) in
-      let (c, q₂) = passed-then _ _ q₁ in
-      let (t, q₃) = passed-then _ _ q₂ in
-      let (l, q₄) = passed-then _ _ q₃ in
-      let (s, q₅) = passed-then _ _ q₄ in
-      record { typeLengths = a; codeLengths = c; typeRows = t; lengths = l; annotations = s; instructions = judge-exactly (tablesOf types tags) (routineOf blocks code) .0 q₅ },
-  λ A. ok-verdict _ (ok-then _ _ tt (A .typeLengths) ∙ ok-then _ _ tt (A .codeLengths) ∙ ok-then _ _ tt (A .typeRows) ∙ ok-then _ _ tt (A .lengths) ∙ ok-then _ _ tt (A .annotations)
-      ∙ judge-exactly (tablesOf types tags) (routineOf blocks code) .1 (A .instructions)),
+pub check-exactly : (types tags : List ℕ) (C : Code) → (check types tags C .number ≡ 0) ↔ Accepted types tags C
+unfolding check checkAsk tablesAsk
+check-exactly types tags C = (
+  λ e. let (p, j) = passed-then _ _ (verdict-ok _ e) in
+      let (a, (c, (t, (l, (s, u))))) = all-passed (tableQuestions types tags C) p in
+      record {
+        typeLengths = a;
+        codeLengths = c;
+        typeRows = t;
+        lengths = l;
+        annotations = s;
+        instructions = judge-exactly (tablesOf types tags) (routineOf C) .0 j;
+      },
+  λ A. let tables = passed-all (tableQuestions types tags C) (A .typeLengths, (A .codeLengths, (A .typeRows, (A .lengths, (A .annotations, tt))))) in
+      ok-verdict _ (ok-then _ _ tt tables ∙ judge-exactly (tablesOf types tags) (routineOf C) .1 (A .instructions)),
 )
 
-module _ (types tags blocks code : List ℕ) where
-  -- the questions of the tables, in order: Q1, Q2 to Q4, Q5, Q6
-  abbrev typeLengths : Outcome (Unit {0})
-  typeLengths = typeLengthsAsk (length types) (length tags)
-
-  abbrev codeLengths : Outcome (Unit {0})
-  codeLengths = codeLengthsAsk (length blocks) (length code)
-
-  abbrev typeRows : Outcome (Unit {0})
-  typeRows = typesAsk (tablesOf types tags)
-
-  abbrev blockLengths : Outcome (Unit {0})
-  blockLengths = lengthsAsk (routineOf blocks code)
-
-  abbrev annotations : Outcome (Unit {0})
-  annotations = annotationsAsk (tablesOf types tags) (routineOf blocks code)
-
-  -- the first no, and none before it
+module _ (types tags : List ℕ) (C : Code) where
+  -- the first no, and none before it: of the tables, or else of the instructions
   pub data First (r : Refusal) : Type 0 where
-    typeLengthsNo : typeLengths ≡ refused r → First r
-    codeLengthsNo : typeLengths ≡ ok tt → codeLengths ≡ refused r → First r
-    typeRowsNo : typeLengths ≡ ok tt → codeLengths ≡ ok tt → typeRows ≡ refused r → First r
-    blockLengthsNo : typeLengths ≡ ok tt → codeLengths ≡ ok tt → typeRows ≡ ok tt → blockLengths ≡ refused r → First r
-    annotationsNo : typeLengths ≡ ok tt → codeLengths ≡ ok tt → typeRows ≡ ok tt → blockLengths ≡ ok tt → annotations ≡ refused r → First r
-    instructionNo : typeLengths ≡ ok tt → codeLengths ≡ ok tt → typeRows ≡ ok tt → blockLengths ≡ ok tt → annotations ≡ ok tt
-        → FirstNoOf (tablesOf types tags) (routineOf blocks code) r → First r
+    tablesNo : FirstRefused r (tableQuestions types tags C) → First r
+    instructionNo : AllPassed (tableQuestions types tags C) → FirstNoOf (tablesOf types tags) (routineOf C) r → First r
 
-  first-of : (r : Refusal) → checkAsk types tags blocks code ≡ refused r → First r
-  unfolding checkAsk
+  first-of : (r : Refusal) → checkAsk types tags C ≡ refused r → First r
+  unfolding checkAsk tablesAsk
   first-of r e =
-      either (then-refused _ _ r e) typeLengthsNo (λ (a, e).
-      either (then-refused _ _ r e) (codeLengthsNo a) (λ (c, e).
-      either (then-refused _ _ r e) (typeRowsNo a c) (λ (t, e).
-      either (then-refused _ _ r e) (blockLengthsNo a c t) (λ (l, e).
-      either (then-refused _ _ r e) (annotationsNo a c t l) (λ (s, e).
-      instructionNo a c t l s (judge-refused (tablesOf types tags) (routineOf blocks code) r e))))))
+      either (then-refused _ _ r e) (λ t. tablesNo (first-refused (tableQuestions types tags C) r t))
+      (λ (t, e'). instructionNo (all-passed (tableQuestions types tags C) t) (judge-refused (tablesOf types tags) (routineOf C) r e'))
 
   -- a check that does not give 0 names the first question with a no, and its place
-  pub check-refused : (check types tags blocks code .number ≡ 0 → ⊥) → (r : Refusal) × (check types tags blocks code ≡ refusing r) × First r
+  pub check-refused : (check types tags C .number ≡ 0 → ⊥) → (r : Refusal) × (check types tags C ≡ refusing r) × First r
   unfolding check verdictOf
-  check-refused z = go (checkAsk types tags blocks code) refl z
+  check-refused z = go (checkAsk types tags C) refl z
     where
-      go : (o : Outcome (Unit {0})) → checkAsk types tags blocks code ≡ o → (verdictOf o .number ≡ 0 → ⊥) → (r : Refusal) × (verdictOf (checkAsk types tags blocks code) ≡ refusing r) × First r
+      go : (o : Outcome (Unit {0})) → checkAsk types tags C ≡ o → (verdictOf o .number ≡ 0 → ⊥)
+          → (r : Refusal) × (verdictOf (checkAsk types tags C) ≡ refusing r) × First r
       go (ok u) q z = absurd (z refl)
       go (refused r) q z = (r, rw q refl, first-of r q)

@@ -2,9 +2,11 @@
 use mathlib.Core.Path.{_≡_, refl}
 use mathlib.Core.List.{List, [], _∷_, _++_}
 use Prim.Native.Nat.{ℕ, zero, suc, _<_}
+use Rattle.model.specs.Table.{codeOf}
+use Rattle.model.specs.Machine.{ready}
 use Rattle.model.specs.Check.{check}
 use Rattle.model.specs.MemoryCheck.{entryCheck}
-use Rattle.model.specs.Turns.{ready, afterCall, atStart, Task, done, World, Call, turn, checkingMemory, running}
+use Rattle.model.specs.Turns.{afterCall, atStart, Task, done, World, Call, turn, checkingMemory, running}
 use Rattle.model.specs.Safety.{Checked, Safe}
 use Rattle.model.specs.Cases.{plotTypes, plotTags, row, refWord, sameWord, constantByte, storeWord, jumpWord, haltWord, stageBlocks, stageCode}
 use Rattle.model.proofs.Compute.{computed}
@@ -27,11 +29,11 @@ abbrev correctionCode : List ℕ
 correctionCode = jumpWord 1 ∷ storeWord 5 1 0 ∷ storeWord 4 1 1 ∷ haltWord ∷ []
 
 abbrev correction : Task
-correction = record { blocks = correctionBlocks; code = correctionCode; start = ready 0 (0 ∷ 1 ∷ 0 ∷ 0 ∷ 8 ∷ 1 ∷ 0 ∷ 0 ∷ []) }
+correction = record { code = codeOf correctionBlocks correctionCode; start = ready 0 (0 ∷ 1 ∷ 0 ∷ 0 ∷ 8 ∷ 1 ∷ 0 ∷ 0 ∷ []) }
 
 -- the ranking: reads the corrected weight of the plot in r1 where its stage is 1
 abbrev ranking : Task
-ranking = record { blocks = stageBlocks 1; code = stageCode; start = ready 0 (0 ∷ 1 ∷ 0 ∷ 0 ∷ 0 ∷ 0 ∷ 0 ∷ 0 ∷ []) }
+ranking = record { code = codeOf (stageBlocks 1) stageCode; start = ready 0 (0 ∷ 1 ∷ 0 ∷ 0 ∷ 0 ∷ 0 ∷ 0 ∷ 0 ∷ []) }
 
 -- routine 0 is the correction; there are two routines, the second the ranking
 abbrev pub tasks : ℕ → Task
@@ -48,7 +50,7 @@ checked =
       entered = λ i h. (memory, enters i);
     }
   where
-    accepts : (i : ℕ) → check plotTypes plotTags (tasks i .blocks) (tasks i .code) .number ≡ 0
+    accepts : (i : ℕ) → check plotTypes plotTags (tasks i .code) .number ≡ 0
     accepts zero = refl
     accepts (suc i) = refl
 
@@ -56,7 +58,7 @@ checked =
     eight zero = refl
     eight (suc i) = refl
 
-    enters : (i : ℕ) → entryCheck plotTypes plotTags allocations memory (tasks i .blocks) (tasks i .code) (tasks i .start .block) (tasks i .start .registers) .number ≡ 0
+    enters : (i : ℕ) → entryCheck plotTypes plotTags allocations memory (tasks i .code) (tasks i .start) .number ≡ 0
     enters zero = refl
     enters (suc i) = refl
 
@@ -72,7 +74,7 @@ afterAll (c ∷ cs) w = afterAll cs (afterCall tasks c w)
 -- the correction enters its second block, the ranking reads the plot as it was, the correction stores and halts, the ranking of the
 -- same plot is over and its next turn is passed over, as is the correction's
 abbrev calls : List Call
-calls = turn 0 1 ∷ turn 1 1 ∷ turn 0 0 ∷ checkingMemory [] [] [] [] ∷ turn 0 7 ∷ turn 1 9 ∷ turn 0 3 ∷ running [] [] 0 [] 5 ∷ []
+calls = turn 0 1 ∷ turn 1 1 ∷ turn 0 0 ∷ checkingMemory [] [] [] [] ∷ turn 0 7 ∷ turn 1 9 ∷ turn 0 3 ∷ running (codeOf [] []) (ready 0 []) 5 ∷ []
 
 pub plot-corrected : afterAll calls (atStart tasks 2 memory) .memory ≡ 0 ∷ 1 ∷ 8 ∷ 1 ∷ 7 ∷ 8600 ∷ 22 ∷ 9100 ∷ 7800 ∷ 4 ∷ []
 unfolding computed

@@ -10,6 +10,7 @@ pub mod Tidy
 pub mod Unique
 pub mod Mean
 pub mod Lawful
+pub mod TableLaws
 pub mod Invariant
 pub mod FitsSound
 pub mod Decode
@@ -17,7 +18,6 @@ pub mod StepSound
 pub mod EdgeSound
 pub mod BlockSound
 pub mod MachineLaws
-pub mod TableLaws
 pub mod MeetsDecide
 pub mod RunSound
 pub mod RunCalls

@@ -7,9 +7,9 @@ use Prim.Native.Nat.{ℕ, zero, suc, _+_, _-_, _≤_, _<_}
 use native.Mathlib.Omega.{arith}
 use lib.Dec.{ltb, leb, eqb}
 use borrow.Author.Tests.{eqb-true, eqb-false, eq-eqb, ne-eqb, ltb-true, ltb-false}
-use Rattle.model.specs.Question.{_and_, _or_, pick, every, Question, numberOf, questions, withNumber, questionOf, isNumber, isAnswer}
-use Rattle.model.specs.Question.{q1, q2, q3, q4, q5, q6, q7, q8, q9, q10, q11, q12, q13, q14, q15, q16, q17, q18, q19, q20, q21, q22}
-use Rattle.model.specs.Question.{Refusal, Outcome, ok, refused, ask, then, firstNo, verdictOf}
+use Rattle.model.specs.Question.{_and_, _or_, pick, every, Question, numberOf, questions, withNumber, questionOf, isNumber, isAnswer, q1, q2}
+use Rattle.model.specs.Question.{q3, q4, q5, q6, q7, q8, q9, q10, q11, q12, q13, q14, q15, q16, q17, q18, q19, q20, q21, q22, Refusal, Outcome}
+use Rattle.model.specs.Question.{ok, refused, ask, then, firstNo, verdictOf, provided, inOrder}
 
 -- ---- tests
 
@@ -56,12 +56,12 @@ not-true true e = absurd (false≢true e)
 not-true false e = refl
 
 -- what an answer b tells of the test t that it stands for, past `not b`
-pub told-no : {t b : Bool} → b ≡ t → not b ≡ true → t ≡ false
-told-no {b = b} e h = sym e ∙ not-true b h
+pub test-false : {t b : Bool} → b ≡ t → not b ≡ true → t ≡ false
+test-false {b = b} e h = sym e ∙ not-true b h
 
-pub told-yes : {t b : Bool} → b ≡ t → not b ≡ false → t ≡ true
-told-yes {b = true} e h = sym e
-told-yes {b = false} e h = absurd (false≢true (sym h))
+pub test-true : {t b : Bool} → b ≡ t → not b ≡ false → t ≡ true
+test-true {b = true} e h = sym e
+test-true {b = false} e h = absurd (false≢true (sym h))
 
 pub pick-true {ℓ} : {A : Type ℓ} (b : Bool) (x y : A) → b ≡ true → pick b x y ≡ x
 pick-true b x y e = rw e
@@ -98,12 +98,12 @@ pub refused-same : {A : Type 0} {r s : Refusal} → _≡_ {A = Outcome A} (refus
 refused-same e = cc
 
 pub ask-ok : {A : Type 0} (b : Bool) (r : Refusal) (k : Unit {0} → Outcome A) {x : A} → ask b r k ≡ ok x → (b ≡ true) × (k tt ≡ ok x)
-unfolding ask
+unfolding provided
 ask-ok true r k e = (refl, e)
 ask-ok false r k e = absurd (not-ok e)
 
 pub ok-ask : {A : Type 0} (b : Bool) (r : Refusal) (k : Unit {0} → Outcome A) → b ≡ true → ask b r k ≡ k tt
-unfolding ask
+unfolding provided
 ok-ask b r k e = rw e
 
 pub then-ok : {A B : Type 0} (o : Outcome A) (k : A → Outcome B) {x : B} → then o k ≡ ok x → (a : A) × (o ≡ ok a) × (k a ≡ ok x)
@@ -122,10 +122,36 @@ passed-then (ok u) k e = (refl, e)
 passed-then (refused r) k e = absurd (not-ok e)
 
 -- a refusal is that of the first row of questions, or comes after it has passed
-pub then-refused : {B : Type 0} (o : Outcome (Unit {0})) (k : Unit {0} → Outcome B) (r : Refusal) → then o k ≡ refused r → (o ≡ refused r) ⊎ ((o ≡ ok tt) × (k tt ≡ refused r))
+pub then-refused : {B : Type 0} (o : Outcome (Unit {0})) (k : Unit {0} → Outcome B) (r : Refusal) → then o k ≡ refused r
+    → (o ≡ refused r) ⊎ ((o ≡ ok tt) × (k tt ≡ refused r))
 unfolding then
 then-refused (ok u) k r e = inr (refl, e)
 then-refused (refused s) k r e = inl (ap {B = Outcome (Unit {0})} refused (refused-same e))
+
+-- each row of questions has no no
+abbrev pub AllPassed : List (Outcome (Unit {0})) → Type 0
+AllPassed [] = Unit {0}
+AllPassed (q ∷ rest) = (q ≡ ok tt) × AllPassed rest
+
+pub all-passed : (qs : List (Outcome (Unit {0}))) → inOrder qs ≡ ok tt → AllPassed qs
+unfolding inOrder
+all-passed [] e = tt
+all-passed (q ∷ rest) e = let (p, r) = passed-then q _ e in (p, all-passed rest r)
+
+pub passed-all : (qs : List (Outcome (Unit {0}))) → AllPassed qs → inOrder qs ≡ ok tt
+unfolding inOrder
+passed-all [] h = refl
+passed-all (q ∷ rest) h = ok-then q _ tt (h .0) ∙ passed-all rest (h .1)
+
+-- the first row of questions with a no: those before it have none
+pub data FirstRefused (r : Refusal) : List (Outcome (Unit {0})) → Type 0 where
+  at-once : {q : Outcome (Unit {0})} {rest : List (Outcome (Unit {0}))} → q ≡ refused r → FirstRefused r (q ∷ rest)
+  further : {q : Outcome (Unit {0})} {rest : List (Outcome (Unit {0}))} → q ≡ ok tt → FirstRefused r rest → FirstRefused r (q ∷ rest)
+
+pub first-refused : (qs : List (Outcome (Unit {0}))) (r : Refusal) → inOrder qs ≡ refused r → FirstRefused r qs
+unfolding inOrder
+first-refused [] r e = absurd (not-ok (sym e))
+first-refused (q ∷ rest) r e = either (then-refused q _ r e) at-once (λ (p, e'). further p (first-refused rest r e'))
 
 pub firstNo-ok : (n i : ℕ) (f : ℕ → Outcome (Unit {0})) → firstNo n i f ≡ ok tt → (j : ℕ) → i ≤ j → j < i + n → f j ≡ ok tt
 unfolding firstNo
@@ -152,7 +178,8 @@ unfolding firstNo then
 firstNo-refused zero i f r e = absurd (not-ok (sym e))
 firstNo-refused (suc n) i f r e = go (f i) refl (λ k. firstNo-refused n (suc i) f r k) e
   where
-    go : (o : Outcome (Unit {0})) → f i ≡ o → (firstNo n (suc i) f ≡ refused r → FirstNo n (suc i) f r) → then o (λ _. firstNo n (suc i) f) ≡ refused r → FirstNo (suc n) i f r
+    go : (o : Outcome (Unit {0})) → f i ≡ o → (firstNo n (suc i) f ≡ refused r → FirstNo n (suc i) f r)
+        → then o (λ _. firstNo n (suc i) f) ≡ refused r → FirstNo (suc n) i f r
     go (ok u) h rest e =
         let F = rest e in
         record {

@@ -9,14 +9,14 @@ use native.Mathlib.Nat.{add-zero, zero-add, suc-add}
 use lib.Dec.{ltb, eqb}
 use lib.ListN.{length, getD, set, length-set}
 use borrow.Author.Tests.{ltb-true, lt-ltb, eqb-true, eqb-false}
-use Rattle.model.specs.Question.{_and_, pick, Question, q7, q8, q9, q18, q22, Refusal, Outcome, ok, refused}
+use Rattle.model.specs.Question.{_and_, Question, q7, q8, q9, q18, q22, provided, pick}
 use Rattle.model.specs.Table.{Routine}
-use Rattle.model.specs.Machine.{Plain, End, halt, jump, ifEqual, ifLess, Instruction, plain, end, malformed, instructionAt, Effect, put, read}
-use Rattle.model.specs.Machine.{write, effect, addressed, registersAfter, memoryAfter, Next, stop, enter, next, targetsExist, State, Step, goes}
-use Rattle.model.specs.Machine.{halts, faults, need, after, atHalt, entering, leave, indexOf, atEnd, perform, step, Passes, here, on, Ran}
-use Rattle.model.specs.Machine.{halted, paused, faulted, onward, finish, steps, runBlocks}
+use Rattle.model.specs.Machine.{End, halt, jump, ifEqual, ifLess, Instruction, plain, end, malformed, instructionAt, Effect, put, read, write}
+use Rattle.model.specs.Machine.{effect, registersAfter, memoryAfter, Next, stop, enter, next, targetsExist, State, Step, goes, halts, faults}
+use Rattle.model.specs.Machine.{need, after, atHalt, entering, leave, indexOf, perform, step, Passes, here, on, Ran, halted, paused, faulted}
+use Rattle.model.specs.Machine.{onward, finish, steps, runBlocks, carryOut, formAsk, reg, Plain}
 use Rattle.model.proofs.Logic.{byTest, and-true, not-true, pick-both}
-use Rattle.model.proofs.BlockSound.{Sized}
+use Rattle.model.proofs.TableLaws.{Sized}
 
 -- ---- one step, taken apart
 
@@ -46,48 +46,69 @@ pub data OfCode : Question → Type 0 where
   of-18 : OfCode q18
   of-22 : OfCode q22
 
--- where a step leads: to the next instruction of the block; at the block's end, to another block or to the halt; or nowhere
-pub data Leads (P : Routine) (s : State) : Step → Type 0 where
-  inside : (f : Effect) → (suc (s .offset) ≡ P .long (s .block) → ⊥) → Leads P s (goes (after s f))
-  beyond : (t : ℕ) → t < P .count → suc (s .offset) ≡ P .long (s .block) → Leads P s (goes (entering s t))
-  finally : suc (s .offset) ≡ P .long (s .block) → Leads P s (halts (atHalt s))
-  nowhere : (q : Question) → OfCode q → Leads P s (faults q s)
+-- the state is before its block's last instruction
+abbrev pub AtLast : Routine → State → Type 0
+AtLast P s = suc (s .offset) ≡ P .long (s .block)
+
+-- where a step by an instruction leads: to the next instruction of the block; at the block's end, to another block or to the halt; or
+-- nowhere
+pub data Leads (P : Routine) (s : State) (x : Instruction) : Step → Type 0 where
+  inside : (y : Plain) → x ≡ plain y → (AtLast P s → ⊥) → Leads P s x (goes (after s (effect y (s .registers))))
+  beyond : (e : End) (t : ℕ) → x ≡ end e → next e (s .block) (s .registers) ≡ enter t → t < P .count → AtLast P s
+      → Leads P s x (goes (entering s t))
+  finally : x ≡ end halt → AtLast P s → Leads P s x (halts (atHalt s))
+  nowhere : (q : Question) → OfCode q → Leads P s x (faults q s)
 
 module _ (P : Routine) where
-  need-leads : (s : State) (b : Bool) (q : Question) (k : Unit {0} → Step) → OfCode q → (b ≡ true → Leads P s (k tt)) → Leads P s (need b q s k)
-  unfolding need
-  need-leads s true q k o h = h refl
-  need-leads s false q k o h = nowhere q o
+  need-leads : (s : State) (x : Instruction) (b : Bool) (q : Question) (k : Unit {0} → Step) → OfCode q → (b ≡ true → Leads P s x (k tt))
+      → Leads P s x (need b q s k)
+  unfolding provided
+  need-leads s x true q k o h = h refl
+  need-leads s x false q k o h = nowhere q o
+
+  -- an end that leads to one of two blocks, both of which exist
+  branch-leads : (s : State) (e : End) (b : Bool) (c d : ℕ) → next e (s .block) (s .registers) ≡ pick b (enter c) (enter d)
+      → c < P .count → d < P .count → AtLast P s → Leads P s (end e) (leave s (next e (s .block) (s .registers)))
+  unfolding leave
+  branch-leads s e true c d n h k l = rw n (beyond e c refl n h l)
+  branch-leads s e false c d n h k l = rw n (beyond e d refl n k l)
 
   -- a block's end leads to a block that exists
-  end-leads : (s : State) (e : End) → suc (s .offset) ≡ P .long (s .block) → targetsExist (P .count) (s .block) e ≡ true → Leads P s (leave s (next e (s .block) (s .registers)))
+  end-leads : (s : State) (e : End) → AtLast P s → targetsExist (P .count) (s .block) e ≡ true
+      → Leads P s (end e) (leave s (next e (s .block) (s .registers)))
   unfolding targetsExist next leave
-  end-leads s halt l t = finally l
-  end-leads s (jump c) l t = beyond c (ltb-true _ _ t) l
+  end-leads s halt l t = finally refl l
+  end-leads s (jump c) l t = beyond (jump c) c refl refl (ltb-true _ _ t) l
   end-leads s (ifEqual x k c) l t =
       let (t₁, t₂) = and-true _ _ t in
-      pick-both (λ (n : Next). Leads P s (leave s n)) (eqb (getD (s .registers) x 0) k) (enter c) (enter (suc (s .block))) (λ q. beyond c (ltb-true _ _ t₁) l) (λ q. beyond (suc (s .block)) (ltb-true _ _ t₂) l)
+      branch-leads s (ifEqual x k c) (eqb (reg (s .registers) x) k) c (suc (s .block)) refl (ltb-true _ _ t₁) (ltb-true _ _ t₂) l
   end-leads s (ifLess x y c) l t =
       let (t₁, t₂) = and-true _ _ t in
-      pick-both (λ (n : Next). Leads P s (leave s n)) (ltb (getD (s .registers) x 0) (getD (s .registers) y 0)) (enter c) (enter (suc (s .block))) (λ q. beyond c (ltb-true _ _ t₁) l) (λ q. beyond (suc (s .block)) (ltb-true _ _ t₂) l)
+      branch-leads s (ifLess x y c) (ltb (reg (s .registers) x) (reg (s .registers) y)) c (suc (s .block)) refl
+      (ltb-true _ _ t₁) (ltb-true _ _ t₂) l
 
-  performs : (s : State) (x : Instruction) → Leads P s (perform P x s)
-  unfolding perform
+  performs : (s : State) (x : Instruction) → Leads P s x (perform P x s)
+  unfolding perform formAsk carryOut
   performs s malformed = nowhere _ of-7
-  performs s (plain x) = need-leads s _ _ _ of-8 (λ p. need-leads s _ _ _ of-18 (λ q. inside (effect x (s .registers)) (eqb-false _ _ (not-true _ p))))
-  performs s (end e) = need-leads s _ _ _ of-8 (λ p. need-leads s _ _ _ of-9 (λ q. end-leads s e (eqb-true _ _ p) q))
+  performs s (plain y) =
+      need-leads s (plain y) _ _ _ of-8 (λ p. need-leads s (plain y) _ _ _ of-18 (λ q. inside y refl (eqb-false _ _ (not-true _ p))))
+  performs s (end e) = need-leads s (end e) _ _ _ of-8 (λ p. need-leads s (end e) _ _ _ of-9 (λ q. end-leads s e (eqb-true _ _ p) q))
 
-  pub leads : (s : State) → Leads P s (step P s)
+  -- the instruction at a state
+  abbrev pub instructionOf : State → Instruction
+  instructionOf s = instructionAt P (s .block) (s .offset)
+
+  pub leads : (s : State) → Leads P s (instructionOf s) (step P s)
   unfolding step
-  leads s = need-leads s _ _ _ of-22 (λ q. performs s (instructionAt P (s .block) (s .offset)))
+  leads s = need-leads s (instructionOf s) _ _ _ of-22 (λ q. performs s (instructionOf s))
 
   fault-inverts : (s s' : State) (q : Question) → step P s ≡ faults q s' → (s' ≡ s) × OfCode q
   fault-inverts s s' q e = go (step P s) (leads s) e
     where
-      go : (x : Step) → Leads P s x → x ≡ faults q s' → (s' ≡ s) × OfCode q
-      go x (inside f d) e = absurd (goes-faults e)
-      go x (beyond t h l) e = absurd (goes-faults e)
-      go x (finally l) e = absurd (halts-faults e)
+      go : (x : Step) → Leads P s (instructionOf s) x → x ≡ faults q s' → (s' ≡ s) × OfCode q
+      go x (inside y i d) e = absurd (goes-faults e)
+      go x (beyond f t i n h l) e = absurd (goes-faults e)
+      go x (finally i l) e = absurd (halts-faults e)
       go x (nowhere q o) e = let (eq, es) = faults-same e in (sym es, rw (← eq) o)
 
   -- a fault leaves the state as it was before the instruction
@@ -101,10 +122,10 @@ module _ (P : Routine) where
   pub halt-stays : (s s' : State) → step P s ≡ halts s' → s' ≡ atHalt s
   halt-stays s s' e = go (step P s) (leads s) e
     where
-      go : (x : Step) → Leads P s x → x ≡ halts s' → s' ≡ atHalt s
-      go x (inside f d) e = absurd (goes-halts e)
-      go x (beyond t h l) e = absurd (goes-halts e)
-      go x (finally l) e = sym (halts-same e)
+      go : (x : Step) → Leads P s (instructionOf s) x → x ≡ halts s' → s' ≡ atHalt s
+      go x (inside y i d) e = absurd (goes-halts e)
+      go x (beyond f t i n h l) e = absurd (goes-halts e)
+      go x (finally i l) e = sym (halts-same e)
       go x (nowhere q o) e = absurd (halts-faults (sym e))
 
 -- ---- states passed through
@@ -116,7 +137,7 @@ length-after (read a x) r m = (length-set r a _, refl)
 length-after (write x y) r m = (refl, length-set m x y)
 
 -- what holds of every state passed through, from a state of its own block and offset on
-pub record Placed (P : Routine) (s₀ s : State) : Type 0 where
+pub record Visited (P : Routine) (s₀ s : State) : Type 0 where
   pub exists : s .block < P .count
   pub within : s .offset < P .long (s .block)
   pub longRegisters : length (s .registers) ≡ length (s₀ .registers)
@@ -126,12 +147,12 @@ pub record Placed (P : Routine) (s₀ s : State) : Type 0 where
   pub counted : (s .finished ≡ s₀ .finished → (s .block ≡ s₀ .block) × (s .carried ≡ s .offset + s₀ .carried)) × (s₀ .finished ≤ s .finished)
 
 module _ (P : Routine) (S : Sized P) where
-  pub placed-step : (s₀ s s' : State) → Placed P s₀ s → step P s ≡ goes s' → Placed P s₀ s'
-  placed-step s₀ s s' A e = go (step P s) (leads P s) e
+  pub visited-step : (s₀ s s' : State) → Visited P s₀ s → step P s ≡ goes s' → Visited P s₀ s'
+  visited-step s₀ s s' A e = go (step P s) (leads P s) e
     where
-      go : (x : Step) → Leads P s x → x ≡ goes s' → Placed P s₀ s'
-      go x (inside f d) e =
-          let (r, m) = length-after f (s .registers) (s .memory) in
+      go : (x : Step) → Leads P s (instructionOf P s) x → x ≡ goes s' → Visited P s₀ s'
+      go x (inside y i d) e =
+          let (r, m) = length-after (effect y (s .registers)) (s .registers) (s .memory) in
           rw (← goes-same e) (record {
             exists = A .exists;
             within = let w = A .within in omega arith;
@@ -140,7 +161,7 @@ module _ (P : Routine) (S : Sized P) where
             untouched = (λ z. absurd (let y = A .untouched .1 in omega arith), let y = A .untouched .1 in omega arith);
             counted = (λ z. let (eb, ec) = A .counted .0 z in (eb, omega arith), A .counted .1);
           })
-      go x (beyond t h l) e =
+      go x (beyond f t i n h l) e =
           rw (← goes-same e) (record {
             exists = h;
             within = S .least t h;
@@ -149,21 +170,28 @@ module _ (P : Routine) (S : Sized P) where
             untouched = (λ z. absurd (let y = A .untouched .1 in omega arith), let y = A .untouched .1 in omega arith);
             counted = (λ z. absurd (let y = A .counted .1 in omega arith), let y = A .counted .1 in omega arith);
           })
-      go x (finally l) e = absurd (goes-halts (sym e))
+      go x (finally i l) e = absurd (goes-halts (sym e))
       go x (nowhere q o) e = absurd (goes-faults (sym e))
 
-  pub placed-here : (s : State) → s .block < P .count → s .offset ≡ 0 → Placed P s s
-  placed-here s h z =
-      record { exists = h; within = rw z (S .least (s .block) h); longRegisters = refl; longMemory = refl; untouched = (λ e. refl, omega arith); counted = (λ e. (refl, omega arith), omega arith) }
+  pub visited-here : (s : State) → s .block < P .count → s .offset ≡ 0 → Visited P s s
+  visited-here s h z =
+      record {
+        exists = h;
+        within = rw z (S .least (s .block) h);
+        longRegisters = refl;
+        longMemory = refl;
+        untouched = (λ e. refl, omega arith);
+        counted = (λ e. (refl, omega arith), omega arith);
+      }
 
-  pub placed : (last : ℕ) (s₀ s : State) → s₀ .block < P .count → s₀ .offset ≡ 0 → Passes P last s₀ s → Placed P s₀ s
-  placed last s₀ s h z here = placed-here s₀ h z
-  placed last s₀ s h z (on {s₁ = s₁} p l e) = placed-step s₀ s₁ s (placed last s₀ s₁ h z p) e
+  pub visited : (last : ℕ) (s₀ s : State) → s₀ .block < P .count → s₀ .offset ≡ 0 → Passes P last s₀ s → Visited P s₀ s
+  visited last s₀ s h z here = visited-here s₀ h z
+  visited last s₀ s h z (on {s₁ = s₁} p l e) = visited-step s₀ s₁ s (visited last s₀ s₁ h z p) e
 
   -- The index is always below the code length: Q22 never has a no in a run past Q5 and Q16.
   pub index-below : (last : ℕ) (s₀ s : State) → s₀ .block < P .count → s₀ .offset ≡ 0 → Passes P last s₀ s → indexOf P s < P .total
   index-below last s₀ s h z p =
-      let A = placed last s₀ s h z p in
+      let A = visited last s₀ s h z p in
       let i = S .inside (s .block) (A .exists) in
       let w = A .within in
       omega arith
@@ -184,18 +212,19 @@ pub data BlockEnd (P : Routine) (last : ℕ) (s₀ : State) (n : ℕ) : Step →
 module _ (P : Routine) (S : Sized P) (last : ℕ) (s₀ : State) where
   -- one step of a block with n more after it, where those are known to come to its end
   step-end : (n : ℕ) (s : State) → Passes P last s₀ s → s .finished < last → s .block < P .count → s .offset + suc n ≡ P .long (s .block)
-      → ((s' : State) → Passes P last s₀ s' → s' .block < P .count → s' .finished ≡ s .finished → 1 ≤ n → s' .offset + n ≡ P .long (s' .block) → BlockEnd P last s₀ (s .finished) (steps P n s'))
-      → (x : Step) → Leads P s x → step P s ≡ x → BlockEnd P last s₀ (s .finished) (onward x (λ s'. steps P n s'))
+      → ((s' : State) → Passes P last s₀ s' → s' .block < P .count → s' .finished ≡ s .finished → 1 ≤ n → s' .offset + n ≡ P .long (s' .block)
+      → BlockEnd P last s₀ (s .finished) (steps P n s'))
+      → (x : Step) → Leads P s (instructionOf P s) x → step P s ≡ x → BlockEnd P last s₀ (s .finished) (onward x (λ s'. steps P n s'))
   unfolding onward steps
-  step-end n s p l h e rest x (inside f d) q = rest (after s f) (on p l q) h refl (more n d e) (omega arith)
+  step-end n s p l h e rest x (inside y i d) q = rest (after s (effect y (s .registers))) (on p l q) h refl (more n d e) (omega arith)
     where
       more : (n : ℕ) → (suc (s .offset) ≡ P .long (s .block) → ⊥) → s .offset + suc n ≡ P .long (s .block) → 1 ≤ n
       more zero d e = absurd (d (omega arith))
       more (suc n) d e = omega arith
-  step-end n s p l h e rest x (beyond t k m) q =
+  step-end n s p l h e rest x (beyond f t i b k m) q =
       let z : n ≡ 0 = omega arith in
       rw z (next-block (on p l q) refl k refl)
-  step-end n s p l h e rest x (finally m) q = halt-here p l q
+  step-end n s p l h e rest x (finally i m) q = halt-here p l q
   step-end n s p l h e rest x (nowhere k o) q = fault-here p l q
 
   block-end : (n : ℕ) (s : State) → Passes P last s₀ s → s .finished < last → s .block < P .count → s .offset + suc n ≡ P .long (s .block)
@@ -207,7 +236,8 @@ module _ (P : Routine) (S : Sized P) (last : ℕ) (s₀ : State) where
       (step P s) (leads P s) refl
 
   -- a whole block, from its first instruction
-  whole-block : (s : State) → Passes P last s₀ s → s .finished < last → s .block < P .count → s .offset ≡ 0 → BlockEnd P last s₀ (s .finished) (steps P (P .long (s .block)) s)
+  whole-block : (s : State) → Passes P last s₀ s → s .finished < last → s .block < P .count → s .offset ≡ 0
+      → BlockEnd P last s₀ (s .finished) (steps P (P .long (s .block)) s)
   whole-block s p l h z = go (P .long (s .block)) refl (S .least (s .block) h)
     where
       go : (n : ℕ) → P .long (s .block) ≡ n → 1 ≤ n → BlockEnd P last s₀ (s .finished) (steps P n s)
@@ -247,13 +277,15 @@ pub blocks-plus : (P : Routine) (j k : ℕ) (s : State) → runBlocks P (j + k) 
 unfolding runBlocks resume
 blocks-plus P zero k s = rw zero-add
 blocks-plus P (suc j) k s =
-    rw suc-add (finish-resume (steps P (P .long (s .block)) s) (λ s'. runBlocks P (j + k) s') (λ s'. runBlocks P j s') (λ s'. runBlocks P k s') (λ s'. blocks-plus P j k s'))
+    let first = steps P (P .long (s .block)) s in
+    rw suc-add (finish-resume first (λ s'. runBlocks P (j + k) s') (λ s'. runBlocks P j s') (λ s'. runBlocks P k s') (λ s'. blocks-plus P j k s'))
 
 -- ---- counts that start later
 
 -- the same state with more blocks finished and more instructions carried out
 abbrev pub later : ℕ → ℕ → State → State
-later f c s = record { block = s .block; offset = s .offset; registers = s .registers; memory = s .memory; finished = f + s .finished; carried = c + s .carried }
+later f c s =
+    record { block = s .block; offset = s .offset; registers = s .registers; memory = s .memory; finished = f + s .finished; carried = c + s .carried }
 
 unfoldable pub laterStep : ℕ → ℕ → Step → Step
 laterStep f c (goes s) = goes (later f c s)
@@ -266,21 +298,28 @@ laterRan f c (paused s) = paused (later f c s)
 laterRan f c (faulted q s) = faulted q (later f c s)
 
 module _ (P : Routine) (f c : ℕ) where
-  need-later : (b : Bool) (q : Question) (s : State) (k k' : Unit {0} → Step) → k' tt ≡ laterStep f c (k tt) → need b q (later f c s) k' ≡ laterStep f c (need b q s k)
-  unfolding need laterStep
+  need-later : (b : Bool) (q : Question) (s : State) (k k' : Unit {0} → Step) → k' tt ≡ laterStep f c (k tt)
+      → need b q (later f c s) k' ≡ laterStep f c (need b q s k)
+  unfolding provided laterStep
   need-later true q s k k' e = e
   need-later false q s k k' e = refl
 
+  carried-later : (s : State) → suc (c + s .carried) ≡ c + suc (s .carried)
+  carried-later s = omega arith
+
+  finished-later : (s : State) → suc (f + s .finished) ≡ f + suc (s .finished)
+  finished-later s = omega arith
+
   suc-later : (s : State) (x : Effect) → _≡_ {A = Step} (goes (after (later f c s) x)) (goes (later f c (after s x)))
-  suc-later s x = let e : suc (c + s .carried) ≡ c + suc (s .carried) = omega arith in rw e
+  suc-later s x = rw (carried-later s)
 
   leave-later : (s : State) (n : Next) → leave (later f c s) n ≡ laterStep f c (leave s n)
   unfolding leave laterStep
-  leave-later s stop = let e : suc (c + s .carried) ≡ c + suc (s .carried) = omega arith in let e' : suc (f + s .finished) ≡ f + suc (s .finished) = omega arith in rw (e, e')
-  leave-later s (enter t) = let e : suc (c + s .carried) ≡ c + suc (s .carried) = omega arith in let e' : suc (f + s .finished) ≡ f + suc (s .finished) = omega arith in rw (e, e')
+  leave-later s stop = rw (carried-later s, finished-later s)
+  leave-later s (enter t) = rw (carried-later s, finished-later s)
 
   perform-later : (x : Instruction) (s : State) → perform P x (later f c s) ≡ laterStep f c (perform P x s)
-  unfolding perform laterStep
+  unfolding perform formAsk carryOut laterStep
   perform-later malformed s = refl
   perform-later (plain x) s = need-later _ _ s _ _ (need-later _ _ s _ _ (suc-later s (effect x (s .registers))))
   perform-later (end e) s = need-later _ _ s _ _ (need-later _ _ s _ _ (leave-later s (next e (s .block) (s .registers))))
@@ -309,4 +348,5 @@ module _ (P : Routine) (f c : ℕ) where
   pub blocks-later : (k : ℕ) (s : State) → runBlocks P k (later f c s) ≡ laterRan f c (runBlocks P k s)
   unfolding runBlocks laterRan
   blocks-later zero s = refl
-  blocks-later (suc k) s = rw (steps-later (P .long (s .block)) s) (finish-later (steps P (P .long (s .block)) s) (λ s'. runBlocks P k s') (λ s'. blocks-later k s'))
+  blocks-later (suc k) s =
+      rw (steps-later (P .long (s .block)) s) (finish-later (steps P (P .long (s .block)) s) (λ s'. runBlocks P k s') (λ s'. blocks-later k s'))

@@ -4,17 +4,19 @@ use mathlib.Core.Path.{_≡_, refl, sym, ap, subst, _∙_}
 use mathlib.Core.List.{List}
 use Prim.Native.Nat.{ℕ, suc, _^_, _<_}
 use lib.ListN.{length}
-use Rattle.model.specs.Question.{Question, Outcome, ok}
+use Rattle.model.specs.Question.{Question, ok}
 use Rattle.model.specs.Table.{Tables, Routine}
 use Rattle.model.specs.Meaning.{Allocation}
-use Rattle.model.specs.Machine.{load, store, plain, instructionAt, State, Step, goes, halts, faults, step, Passes, here, on}
+use Rattle.model.specs.Machine.{load, store, plain, instructionAt, State, goes, halts, faults, step, Passes, here, on}
 use Rattle.model.specs.Check.{blockAsk}
 use Rattle.model.proofs.Lawful.{Lawful, Tabled}
-use Rattle.model.proofs.EdgeSound.{Annotated, Stands, MemoryFit}
-use Rattle.model.proofs.BlockSound.{Sized, At, at-entry, Stepped, inner, leaves, stops, step-sound, Field, load-field, store-field}
+use Rattle.model.proofs.TableLaws.{Sized, Annotated}
+use Rattle.model.proofs.EdgeSound.{Stands, MemoryFit}
+use Rattle.model.proofs.BlockSound.{At, at-entry, Stepped, inner, leaves, stops, step-sound, Field, load-field, store-field}
 use Rattle.model.proofs.MachineLaws.{goes-same, goes-halts, goes-faults, halts-faults, halt-stays}
 
-module _ (𝒯 : Tables) (Is : Allocation) (memory₀ : List ℕ) (narrow : length memory₀ < 2 ^ 32) (law : Lawful 𝒯 Is (length memory₀)) (tab : Tabled 𝒯 Is) (P : Routine) (A : Annotated P) (S : Sized P)
+module _ (𝒯 : Tables) (Is : Allocation) (memory₀ : List ℕ) (narrow : length memory₀ < 2 ^ 32) (law : Lawful 𝒯 Is (length memory₀))
+    (tab : Tabled 𝒯 Is) (P : Routine) (A : Annotated P) (S : Sized P)
     (accepted : (b : ℕ) → b < P .count → blockAsk 𝒯 P b ≡ ok tt) where
   abbrev AtState : State → Type 0
   AtState s = At 𝒯 Is memory₀ narrow law tab P A S s
@@ -55,8 +57,10 @@ module _ (𝒯 : Tables) (Is : Allocation) (memory₀ : List ℕ) (narrow : leng
 
   pub record RunSafe (last : ℕ) (s₀ : State) : Type 0 where
     pub faultless : (s s' : State) (q : Question) → Passes P last s₀ s → step P s ≡ faults q s' → ⊥
-    pub loads : (s : State) → Passes P last s₀ s → (a b c : ℕ) → instructionAt P (s .block) (s .offset) ≡ plain (load a b c) → Field 𝒯 Is memory₀ narrow law tab P A S accepted s b c
-    pub stores : (s : State) → Passes P last s₀ s → (a b c : ℕ) → instructionAt P (s .block) (s .offset) ≡ plain (store a b c) → Field 𝒯 Is memory₀ narrow law tab P A S accepted s b c
+    pub loads : (s : State) → Passes P last s₀ s → (a b c : ℕ) → instructionAt P (s .block) (s .offset) ≡ plain (load a b c)
+        → Field 𝒯 Is memory₀ narrow law tab P A S accepted s b c
+    pub stores : (s : State) → Passes P last s₀ s → (a b c : ℕ) → instructionAt P (s .block) (s .offset) ≡ plain (store a b c)
+        → Field 𝒯 Is memory₀ narrow law tab P A S accepted s b c
     pub blockEnds : (s : State) → Passes P last s₀ s → s .offset ≡ 0 → Stands 𝒯 Is P (s .block) (s .registers) × MemoryFit 𝒯 Is memory₀ (s .memory)
     pub atHalt : (s s' : State) → Passes P last s₀ s → step P s ≡ halts s' → MemoryFit 𝒯 Is memory₀ (s' .memory)
 

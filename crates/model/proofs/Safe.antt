@@ -7,21 +7,21 @@ use native.Mathlib.Omega.{arith}
 use lib.Dec.{ltb, eqb}
 use lib.ListN.{length, getD}
 use borrow.Author.Tests.{ltb-true, eqb-true}
-use Rattle.model.specs.Question.{pick, Outcome, ok}
-use Rattle.model.specs.Table.{Tables, tablesOf, Routine, routineOf}
+use Rattle.model.specs.Question.{pick, ok}
+use Rattle.model.specs.Table.{Tables, tablesOf, Routine, routineOf, Code, rows}
 use Rattle.model.specs.Allocation.{Allocated}
-use Rattle.model.specs.Machine.{State, step, Passes, Ran, halted, paused, faulted, runBlocks, Run, answerAt, answerOf, run, returned, atHalt}
-use Rattle.model.specs.Check.{judge, blockAsk, check}
-use Rattle.model.specs.Turns.{Ready, ready, Task, Standing, waiting, done, World, Call, turn, checking, checkingMemory, checkingEntry}
-use Rattle.model.specs.Turns.{running, settled, standingBy, stateOf, turnRun, turned, afterCall, atStart, Allowed}
-use Rattle.model.specs.Safety.{Checked, Fit, InField, Ends, pauses, halting, TurnSafe, CallSafe, Safe, Demand3}
+use Rattle.model.specs.Machine.{State, Ran, runBlocks, answerOf, returned, atHalt, Ready, ready, begin}
+use Rattle.model.specs.Check.{judge, blockAsk}
+use Rattle.model.specs.Turns.{Task, Standing, waiting, done, World, Call, turn, checking, checkingMemory, checkingEntry, running, settled}
+use Rattle.model.specs.Turns.{standingBy, turnRun, turned, afterCall, atStart, Allowed}
+use Rattle.model.specs.Safety.{Checked, AllFit, InField, Ends, pauses, halting, TurnSafe, CallSafe, Safe, Demand3}
 use Rattle.model.proofs.Logic.{byTest, byEqual, firstNo-ok, ok-firstNo}
 use Rattle.model.proofs.Lawful.{Lawful, Tabled}
 use Rattle.model.proofs.Invariant.{Kept}
-use Rattle.model.proofs.EdgeSound.{Annotated, Stands, MemoryFit}
-use Rattle.model.proofs.BlockSound.{Sized, Field}
+use Rattle.model.proofs.EdgeSound.{Stands, MemoryFit}
+use Rattle.model.proofs.BlockSound.{Field}
 use Rattle.model.proofs.MachineLaws.{Last, pausing, halting as last-halting, faulting}
-use Rattle.model.proofs.TableLaws.{annotated, sized}
+use Rattle.model.proofs.TableLaws.{annotated, sized, Annotated, Sized}
 use Rattle.model.proofs.MeetsDecide.{LaidOut, laid-out, MemoryPasses, memory-exactly, EntryPasses, entry-exactly}
 use Rattle.model.proofs.RunSound.{RunSafe, run-safe}
 use Rattle.model.proofs.RunCalls.{Opens, run-is, run-last, run-untouched}
@@ -39,13 +39,13 @@ record Prepared (𝒯 : Tables) (P : Routine) : Type 0 where
   sizes : Sized P
   blocks : (b : ℕ) → b < P .count → blockAsk 𝒯 P b ≡ ok tt
 
-prepared : (types tags blocks code : List ℕ) → Accepted types tags blocks code → Prepared (tablesOf types tags) (routineOf blocks code)
+prepared : (types tags : List ℕ) (R : Code) → Accepted types tags R → Prepared (tablesOf types tags) (routineOf R)
 unfolding judge
-prepared types tags blocks code A =
-    let judged : judge (tablesOf types tags) (routineOf blocks code) ≡ ok tt = judge-exactly (tablesOf types tags) (routineOf blocks code) .1 (A .instructions) in
+prepared types tags R A =
+    let judged : judge (tablesOf types tags) (routineOf R) ≡ ok tt = judge-exactly (tablesOf types tags) (routineOf R) .1 (A .instructions) in
     record {
-      names = annotated (tablesOf types tags) blocks code (A .annotations);
-      sizes = sized blocks code (A .lengths);
+      names = annotated (rows types) R (A .annotations);
+      sizes = sized R (A .lengths);
       blocks = λ b h. firstNo-ok _ 0 _ judged b (omega arith) (omega arith);
     }
 
@@ -54,10 +54,10 @@ module _ (types tags allocations memory : List ℕ) (n : ℕ) (tasks : ℕ → T
   𝒯 = tablesOf types tags
 
   abbrev P : ℕ → Routine
-  P i = routineOf (tasks i .blocks) (tasks i .code)
+  P i = routineOf (tasks i .code)
 
   abbrev WorldFit : World → Type 0
-  WorldFit w = Fit types tags allocations memory n tasks w
+  WorldFit w = AllFit types tags allocations memory n tasks w
 
   passes : MemoryPasses types tags allocations memory
   passes = memory-exactly types tags allocations memory .0 (C .memoryPassed)
@@ -68,11 +68,11 @@ module _ (types tags allocations memory : List ℕ) (n : ℕ) (tasks : ℕ → T
   narrow : length memory < 2 ^ 32
   narrow = let b = layout .bound in omega arith
 
-  accepted : (i : ℕ) → i < n → Accepted types tags (tasks i .blocks) (tasks i .code)
-  accepted i h = check-exactly types tags (tasks i .blocks) (tasks i .code) .0 (C .accepted i h)
+  accepted : (i : ℕ) → i < n → Accepted types tags (tasks i .code)
+  accepted i h = check-exactly types tags (tasks i .code) .0 (C .accepted i h)
 
   sound : (i : ℕ) → i < n → Prepared 𝒯 (P i)
-  sound i h = prepared types tags (tasks i .blocks) (tasks i .code) (accepted i h)
+  sound i h = prepared types tags (tasks i .code) (accepted i h)
 
   -- ---- worlds
 
@@ -120,12 +120,12 @@ module _ (types tags allocations memory : List ℕ) (n : ℕ) (tasks : ℕ → T
 
   module _ (w : World) (G : Good w) (i k : ℕ) (g : Ready) (e : w .standing i ≡ waiting g) where
     abbrev s₀ : State
-    s₀ = stateOf g (w .memory)
+    s₀ = begin g (w .memory)
 
     mine : i < n
     mine = G .mine i g e .0
 
-    opening : Opens (tasks i .blocks) (tasks i .code) (w .memory) (g .block)
+    opening : Opens (tasks i .code) (w .memory) (g .block)
     opening =
         let A = accepted i mine in
         record {
@@ -157,8 +157,8 @@ module _ (types tags allocations memory : List ℕ) (n : ℕ) (tasks : ℕ → T
 
     ended : Ended
     ended =
-        ended-by (runBlocks (P i) k s₀) (run-is (tasks i .blocks) (tasks i .code) (w .memory) (g .block) (g .registers) k opening)
-        (run-last (tasks i .blocks) (tasks i .code) (w .memory) (g .block) (g .registers) k opening)
+        ended-by (runBlocks (P i) k s₀) (run-is (tasks i .code) (w .memory) g k opening)
+        (run-last (tasks i .code) (w .memory) g k opening)
 
     in-field : (s : State) (c d : ℕ)
         → Field 𝒯 (Allocated allocations) memory narrow (layout .law) (layout .tab) (P i)
@@ -184,26 +184,25 @@ module _ (types tags allocations memory : List ℕ) (n : ℕ) (tasks : ℕ → T
   turned-good w G i k done e = G
 
   -- a run that carries nothing out changes nothing
-  nothing-done : (w : World) (blocks code : List ℕ) (b : ℕ) (r : List ℕ) (k : ℕ) → Allowed (running blocks code b r k) w
-      → afterCall tasks (running blocks code b r k) w ≡ w
+  nothing-done : (w : World) (R : Code) (g : Ready) (k : ℕ) → Allowed (running R g k) w → afterCall tasks (running R g k) w ≡ w
   unfolding afterCall
-  nothing-done w blocks code b r k a =
-      ap (λ (m : List ℕ). let v : World = record { memory = m; standing = w .standing } in v) (run-untouched blocks code (w .memory) b r k a .memory)
+  nothing-done w R g k a =
+      ap (λ (m : List ℕ). let v : World = record { memory = m; standing = w .standing } in v) (run-untouched R (w .memory) g k a .memory)
 
   call-safe : (c : Call) (w : World) → Good w → CallSafe types tags allocations memory n tasks c w
   call-safe (turn i k) w G = λ g e. turn-safe w G i k g e
-  call-safe (checking a b c d) w G = tt
+  call-safe (checking a b R) w G = tt
   call-safe (checkingMemory a b c d) w G = tt
-  call-safe (checkingEntry a b c d e f g h) w G = tt
-  call-safe (running blocks code b r k) w G = λ a. nothing-done w blocks code b r k a
+  call-safe (checkingEntry a b c d R g) w G = tt
+  call-safe (running R g k) w G = λ a. nothing-done w R g k a
 
   after-good : (c : Call) (w : World) → Good w → Allowed c w → Good (afterCall tasks c w)
   unfolding afterCall
   after-good (turn i k) w G a = turned-good w G i k (w .standing i) refl
-  after-good (checking x y z t) w G a = G
+  after-good (checking x y R) w G a = G
   after-good (checkingMemory x y z t) w G a = G
-  after-good (checkingEntry x y z t b c d r) w G a = G
-  after-good (running blocks code b r k) w G a = rw (nothing-done w blocks code b r k a) G
+  after-good (checkingEntry x y z t R g) w G a = G
+  after-good (running R g k) w G a = rw (nothing-done w R g k a) G
 
   list-safe : (calls : List Call) (w : World) → Good w → Safe types tags allocations memory n tasks calls w
   list-safe [] w G = G .fit
@@ -214,7 +213,7 @@ module _ (types tags allocations memory : List ℕ) (n : ℕ) (tasks : ℕ → T
   entered : (i : ℕ) → i < n → Standable i (tasks i .start)
   entered i h =
       let (m, q) = C .entered i h in
-      let E = entry-exactly types tags allocations m (tasks i .blocks) (tasks i .code) (tasks i .start .block) (tasks i .start .registers) .0 q in
+      let E = entry-exactly types tags allocations m (tasks i .code) (tasks i .start) .0 q in
       record { exists = E .exists; eight = C .eight i h; meets = E .registersMeet }
 
   start-good : Good (atStart tasks n memory)

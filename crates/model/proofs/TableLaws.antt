@@ -8,22 +8,38 @@ use native.Mathlib.Omega.{arith}
 use lib.Dec.{ltb, leb, eqb}
 use lib.ListN.{length, getD, take, drop, length-take, length-drop}
 use borrow.Author.Tests.{ltb-true, ltb-false, leb-true, le-leb, eqb-true, le-ltb, lt-ltb}
-use Rattle.model.specs.Question.{_and_, _or_, pick, every, q1, q2, q3, q4, q5, q6, q17, q19, Refusal, Outcome, ok, refused, ask, asked, then, firstNo}
+use Rattle.model.specs.Question.{_and_, _or_, pick, ok}
 use Rattle.model.specs.Word.{kindOf, recordOf, firstOf, secondOf}
-use Rattle.model.specs.Types.{Dep, name, con, Ty, depOf, ofKind, typeOf}
-use Rattle.model.specs.Table.{rowOf, wordsOf, Tables, tablesOf, fieldOf, Routine, startOf, routineOf, usesRecord, usesFirst, usesSecond}
-use Rattle.model.specs.Table.{dependency, wellMade, countAsk, fieldWell, fieldsAsk, tagAsk, typesAsk, blocksAsk, lengthsAsk, annotationWell}
-use Rattle.model.specs.Table.{annotationAsk, annotationsAsk}
-use Rattle.model.specs.Meaning.{Allocation}
+use Rattle.model.specs.Types.{depOf, ofKind, typeOf}
+use Rattle.model.specs.Table.{Tables, fieldOf, startOf, routineOf, usesFirst, usesSecond, dependency, wellMade, countAsk, fieldWell, fieldsAsk}
+use Rattle.model.specs.Table.{typesAsk, blocksAsk, lengthsAsk, annotationWell, annotationAsk, annotationsAsk, memoryLengthAsk, Code, headOf}
+use Rattle.model.specs.Table.{typesQuestions, tablesOf, Routine}
 use Rattle.model.specs.Allocation.{isAllocated, Allocated, laid, rowsAsk, allocationsAsk}
-use Rattle.model.specs.Machine.{memoryLengthAsk}
-use Rattle.model.proofs.Logic.{byTest, byEqual, byLess, either, and-true, or-true, every-true, ask-ok, passed-then, firstNo-ok, not-ok}
+use Rattle.model.proofs.Logic.{byTest, byEqual, byLess, either, and-true, or-true, every-true, ask-ok, passed-then, firstNo-ok, not-ok, all-passed}
 use Rattle.model.proofs.Lists.{getD-past}
 use Rattle.model.proofs.Rows.{eight-words}
 use Rattle.model.proofs.Mean.{DepBelow, TyBelow}
 use Rattle.model.proofs.Lawful.{Lawful, Tabled}
-use Rattle.model.proofs.EdgeSound.{Annotated}
-use Rattle.model.proofs.BlockSound.{Sized}
+
+-- ---- what passed table questions leave
+
+-- the types, as Q2 and Q3 leave them
+pub record TypesOk (𝒯 : Tables) : Type 0 where
+  pub positive : (t : ℕ) → t < 𝒯 .count → 1 ≤ 𝒯 .size t
+  pub small : (t : ℕ) → t < 𝒯 .count → 𝒯 .size t ≤ 8
+  pub names : (t f : ℕ) → t < 𝒯 .count → f < 𝒯 .size t → TyBelow (𝒯 .size t) (fieldOf 𝒯 t f)
+  pub past : (t f : ℕ) → t < 𝒯 .count → f < 8 → 𝒯 .size t ≤ f → getD (𝒯 .words t) f 0 ≡ 0
+
+-- the lengths of blocks, as Q5 leaves them
+pub record Sized (P : Routine) : Type 0 where
+  pub least : (b : ℕ) → b < P .count → 1 ≤ P .long b
+  pub most : (b : ℕ) → b < P .count → P .long b ≤ 32
+  pub inside : (b : ℕ) → b < P .count → P .start b + P .long b ≤ P .total
+
+-- a routine whose annotations are well made
+pub record Annotated (P : Routine) : Type 0 where
+  pub names : (b i : ℕ) → b < P .count → i < 8 → TyBelow 8 (typeOf (getD (P .annotation b) i 0))
+  pub eight : (b : ℕ) → length (P .annotation b) ≤ 8
 
 -- ---- Q3 and Q6: well-made words name fields that exist
 
@@ -33,7 +49,8 @@ dep-below n x q =
     (λ l. rw l (either (or-true _ _ q) (λ a. ltb-true x n a) (λ a. absurd (omega (arith, ltb-true x 8 l, leb-true 8 x a)))))
     (λ l. rw l tt)
 
-kind-below : (n k t x y : ℕ) → pick (usesFirst k) (dependency n x) (eqb x 0) ≡ true → pick (usesSecond k) (dependency n y) (eqb y 0) ≡ true → TyBelow n (ofKind k t (depOf x) (depOf y))
+kind-below : (n k t x y : ℕ) → pick (usesFirst k) (dependency n x) (eqb x 0) ≡ true → pick (usesSecond k) (dependency n y) (eqb y 0) ≡ true
+    → TyBelow n (ofKind k t (depOf x) (depOf y))
 kind-below n zero t x y a b = tt
 kind-below n (suc zero) t x y a b = tt
 kind-below n (suc (suc zero)) t x y a b = tt
@@ -41,7 +58,8 @@ kind-below n (suc (suc (suc zero))) t x y a b = dep-below n x a
 kind-below n (suc (suc (suc (suc zero)))) t x y a b = dep-below n x a
 kind-below n (suc (suc (suc (suc (suc zero))))) t x y a b = dep-below n x a
 kind-below n (suc (suc (suc (suc (suc (suc k)))))) t x y a b =
-    (dep-below n x (rw (le-leb 3 (suc (suc (suc (suc (suc (suc k)))))) (omega arith)) at a), dep-below n y (rw (le-leb 6 (suc (suc (suc (suc (suc (suc k)))))) (omega arith)) at b))
+    let kind : ℕ = suc (suc (suc (suc (suc (suc k))))) in
+    (dep-below n x (rw (le-leb 3 kind (omega arith)) at a), dep-below n y (rw (le-leb 6 kind (omega arith)) at b))
 
 pub well-below : (count n w : ℕ) → wellMade count n w ≡ true → TyBelow n (typeOf w)
 unfolding wellMade typeOf
@@ -51,29 +69,27 @@ well-below count n w q =
     let (d, e) = and-true _ _ q₂ in
     kind-below n (kindOf w) (recordOf w) (firstOf w) (secondOf w) d e
 
-pub annotated : (𝒯 : Tables) (blocks code : List ℕ) → annotationsAsk 𝒯 (routineOf blocks code) ≡ ok tt → Annotated (routineOf blocks code)
+pub annotated : (count : ℕ) (C : Code) → annotationsAsk count (C .blocks) ≡ ok tt → Annotated (routineOf C)
 unfolding annotationsAsk annotationAsk annotationWell routineOf
-annotated 𝒯 blocks code q =
+annotated count C q =
     record {
-      names = λ b i h l. well-below (𝒯 .count) 8 _ (every-true 8 0 _ (ask-ok _ _ _ (firstNo-ok _ 0 _ q b (omega arith) (omega arith)) .0) i (omega arith) (omega arith));
-      eight = λ b. eight-words blocks b;
+      names =
+          λ b i h l. well-below count 8 _
+          (every-true 8 0 _ (ask-ok _ _ _ (firstNo-ok _ 0 _ q b (omega arith) (omega arith)) .0) i (omega arith) (omega arith));
+      eight = λ b. eight-words (C .blocks) b;
     }
 
 -- ---- Q2 and Q3
 
-pub record TypesOk (𝒯 : Tables) : Type 0 where
-  pub positive : (t : ℕ) → t < 𝒯 .count → 1 ≤ 𝒯 .size t
-  pub small : (t : ℕ) → t < 𝒯 .count → 𝒯 .size t ≤ 8
-  pub names : (t f : ℕ) → t < 𝒯 .count → f < 𝒯 .size t → TyBelow (𝒯 .size t) (fieldOf 𝒯 t f)
-  pub past : (t f : ℕ) → t < 𝒯 .count → f < 8 → 𝒯 .size t ≤ f → getD (𝒯 .words t) f 0 ≡ 0
-
-pub types-ok : (𝒯 : Tables) → typesAsk 𝒯 ≡ ok tt → TypesOk 𝒯
-unfolding typesAsk countAsk fieldsAsk fieldWell
-types-ok 𝒯 q =
-    let (c, q₁) = passed-then _ _ q in
-    let (w, q₂) = passed-then _ _ q₁ in
-    let count : (t : ℕ) → t < 𝒯 .count → leb 1 (𝒯 .size t) and leb (𝒯 .size t) 8 ≡ true = λ t h. ask-ok _ _ _ (firstNo-ok _ 0 _ c t (omega arith) (omega arith)) .0 in
-    let word : (t f : ℕ) → t < 𝒯 .count → f < 8 → pick (ltb f (𝒯 .size t)) (wellMade (𝒯 .count) (𝒯 .size t) (getD (𝒯 .words t) f 0)) (eqb (getD (𝒯 .words t) f 0) 0) ≡ true =
+pub types-ok : (types tags : List ℕ) → typesAsk types tags ≡ ok tt → TypesOk (tablesOf types tags)
+unfolding typesAsk countAsk fieldsAsk fieldWell tablesOf
+types-ok types tags q =
+    let 𝒯 = tablesOf types tags in
+    let (c, (w, k)) = all-passed (typesQuestions types tags) q in
+    let count : (t : ℕ) → t < 𝒯 .count → leb 1 (𝒯 .size t) and leb (𝒯 .size t) 8 ≡ true =
+    λ t h. ask-ok _ _ _ (firstNo-ok _ 0 _ c t (omega arith) (omega arith)) .0 in
+    let word : (t f : ℕ) → t < 𝒯 .count → f < 8
+    → pick (ltb f (𝒯 .size t)) (wellMade (𝒯 .count) (𝒯 .size t) (getD (𝒯 .words t) f 0)) (eqb (getD (𝒯 .words t) f 0) 0) ≡ true =
     λ t f h l. every-true 8 0 _ (ask-ok _ _ _ (firstNo-ok _ 0 _ w t (omega arith) (omega arith)) .0) f (omega arith) (omega arith) in
     let few : (t : ℕ) → t < 𝒯 .count → 𝒯 .size t ≤ 8 = λ t h. leb-true _ _ (and-true _ _ (count t h) .1) in
     record {
@@ -85,24 +101,24 @@ types-ok 𝒯 q =
 
 -- ---- Q5
 
-sized-on : (P : Routine) → ((b : ℕ) → P .start (suc b) ≡ P .start b + P .long b) → (n b i : ℕ) → i ≡ P .start b → blocksAsk P n b i ≡ ok tt → (j : ℕ) → b ≤ j → j < b + n
-    → (1 ≤ P .long j) × (P .long j ≤ 32) × (P .start j + P .long j ≤ P .total)
-unfolding blocksAsk
-sized-on P next zero b i e q j lo hi = absurd (omega arith)
-sized-on P next (suc n) b i e q j lo hi =
+sized-on : (blocks : List ℕ) (total n b i : ℕ) → i ≡ startOf blocks b → blocksAsk blocks total n b i ≡ ok tt → (j : ℕ) → b ≤ j → j < b + n
+    → (1 ≤ headOf blocks j) × (headOf blocks j ≤ 32) × (startOf blocks j + headOf blocks j ≤ total)
+unfolding blocksAsk startOf
+sized-on blocks total zero b i e q j lo hi = absurd (omega arith)
+sized-on blocks total (suc n) b i e q j lo hi =
     let (h, q₁) = ask-ok _ _ _ q in
     let (h₁, h₂) = and-true _ _ h in
     let (h₃, h₄) = and-true _ _ h₂ in
-    let a : 1 ≤ P .long b = leb-true _ _ h₁ in
-    let c : P .long b ≤ 32 = leb-true _ _ h₃ in
-    let d : P .start b + P .long b ≤ P .total = rw e at (leb-true (i + P .long b) (P .total) h₄) in
+    let a : 1 ≤ headOf blocks b = leb-true _ _ h₁ in
+    let c : headOf blocks b ≤ 32 = leb-true _ _ h₃ in
+    let d : startOf blocks b + headOf blocks b ≤ total = rw e at (leb-true (i + headOf blocks b) total h₄) in
     byEqual j b (λ s. rw s (a, c, d))
-    (λ x. sized-on P next n (suc b) (i + P .long b) (ap (λ (y : ℕ). y + P .long b) e ∙ sym (next b)) q₁ j (omega arith) (omega arith))
+    (λ x. sized-on blocks total n (suc b) (i + headOf blocks b) (ap (λ (y : ℕ). y + headOf blocks b) e) q₁ j (omega arith) (omega arith))
 
-pub sized : (blocks code : List ℕ) → lengthsAsk (routineOf blocks code) ≡ ok tt → Sized (routineOf blocks code)
+pub sized : (C : Code) → lengthsAsk (C .blocks) (length (C .code)) ≡ ok tt → Sized (routineOf C)
 unfolding lengthsAsk routineOf startOf
-sized blocks code q =
-    let all = sized-on (routineOf blocks code) (λ b. refl) _ 0 0 refl q in
+sized C q =
+    let all = sized-on (C .blocks) (length (C .code)) _ 0 0 refl q in
     record {
       least = λ b h. all b (omega arith) (omega arith) .0;
       most = λ b h. all b (omega arith) (omega arith) .1;
@@ -141,7 +157,8 @@ module _ (𝒯 : Tables) (top : ℕ) where
       let R = row-laid low x y h in
       either (or-true _ _ a)
       (λ s. let (i, j) = same-row x y p t s in rw (← i, ← j) R)
-      (λ s. let K = rows-laid rest (suc r) (x + 𝒯 .size y) p t q₁ s in record { above = omega (arith, R .above, K .above); inside = K .inside; exists = K .exists })
+      (λ s. let K = rows-laid rest (suc r) (x + 𝒯 .size y) p t q₁ s in
+      record { above = omega (arith, R .above, K .above); inside = K .inside; exists = K .exists })
 
   -- two rows are one, or one record ends before the other starts
   rows-apart : (l : List ℕ) (r low p t q u : ℕ) → rowsAsk 𝒯 top l r low ≡ ok tt → isAllocated l p t ≡ true → isAllocated l q u ≡ true

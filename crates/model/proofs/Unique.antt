@@ -10,14 +10,13 @@ use lib.ListN.{length, getD}
 use borrow.Author.Tests.{eqb-true, eqb-false, ltb-true, lt-ltb}
 use Rattle.model.specs.declared.Reference.{Reference}
 use Rattle.model.specs.declared.Reference.the-variants.{To, Nothing}
-use Rattle.model.specs.Question.{pick, Outcome, ok}
+use Rattle.model.specs.Question.{ok}
 use Rattle.model.specs.Types.{Dep, name, con, Ty, any, ref, maybe, tagged, present, same, span, typeOf, rename}
-use Rattle.model.specs.Table.{Tables, tablesOf, Routine, routineOf}
-use Rattle.model.specs.Machine.{Instruction, plain, end, malformed}
+use Rattle.model.specs.Table.{Tables, tablesOf, Routine, routineOf, Code, lastAt}
+use Rattle.model.specs.Machine.{Instruction, plain, end, malformed, formAsk}
 use Rattle.model.specs.Reading.{Values, birthplace, typed, constantsOf, firstTag, referenceOf, Reading}
-use Rattle.model.specs.Check.{valueIn, readInstruction, readingAt, referenceAfter, given}
-use Rattle.model.specs.Rules.{Constant, constant-itself, by-opcode-1, by-type-same, by-taken-11, TagOf, KnownTag, Fits, ref-ref, ref-in}
-use Rattle.model.specs.Rules.{ref-present}
+use Rattle.model.specs.Rules.{Constant, constant-itself, by-opcode-1, by-type-same, by-taken-11, KnownTag, Fits, ref-ref, ref-in, ref-present}
+use Rattle.model.specs.Check.{valueIn, readInstruction, readingAt, referenceAfter, given, readEnd, noAt}
 use Rattle.model.proofs.Logic.{byTest, either, ask-ok, then-ok, passed-then, ok-same, not-ok, not-true}
 use Rattle.model.proofs.Lists.{Member, first, later}
 use Rattle.model.proofs.RulesDecide.{own-is, constant-known, known-constant}
@@ -142,16 +141,16 @@ module _ (𝒯 : Tables) (vs : Values) where
 
 -- ---- every reading of a block is tidy
 
-module _ (types tags blocks code : List ℕ) where
+module _ (types tags : List ℕ) (C : Code) where
   abbrev 𝒯′ : Tables
   𝒯′ = tablesOf types tags
 
   abbrev P′ : Routine
-  P′ = routineOf blocks code
+  P′ = routineOf C
 
   instruction-tidy : (b j : ℕ) (x : Instruction) (st st' : Reading) → P′ .long b ≤ 32 → j < P′ .long b → Tidy st (suc j)
-      → readInstruction 𝒯′ P′ b j x st ≡ ok st' → Tidy st' (suc (suc j))
-  unfolding readInstruction
+      → readInstruction 𝒯′ P′ (noAt 𝒯′ P′ b j) b (suc j) (lastAt P′ b j) x st ≡ ok st' → Tidy st' (suc (suc j))
+  unfolding readInstruction formAsk readEnd
   instruction-tidy b j (plain x) st st' m l T q =
       let (p, q₁) = ask-ok _ _ _ q in
       let d : suc j ≡ P′ .long b → ⊥ = eqb-false (suc j) (P′ .long b) (not-true _ p) in
@@ -166,7 +165,7 @@ module _ (types tags blocks code : List ℕ) where
 
   pub reading-tidy : (b j : ℕ) (st : Reading) → P′ .long b ≤ 32 → j ≤ P′ .long b → readingAt 𝒯′ P′ b j ≡ ok st → Tidy st (suc j)
   unfolding readingAt
-  reading-tidy b zero st m l q = rw (← ok-same q) (entry-tidy (P′ .annotation b) (unfold routineOf in (eight-words blocks b)))
+  reading-tidy b zero st m l q = rw (← ok-same q) (entry-tidy (P′ .annotation b) (unfold routineOf in (eight-words (C .blocks) b)))
   reading-tidy b (suc j) st m l q =
       let (st₀, r, p) = then-ok _ _ q in
       instruction-tidy b j _ st₀ st m (omega arith) (reading-tidy b j st₀ m (omega arith) r) p

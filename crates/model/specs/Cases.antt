@@ -3,7 +3,7 @@ use mathlib.Core.Path.{_≡_}
 use mathlib.Core.List.{List, [], _∷_, _++_}
 use Prim.Native.Nat.{ℕ, _+_, _*_, _^_}
 use Rattle.model.specs.declared.Verdict.{Verdict}
-use Rattle.model.specs.Table.{tablesOf}
+use Rattle.model.specs.Table.{tablesOf, codeOf}
 use Rattle.model.specs.Machine.{effect, put, move, multiply, divide}
 use Rattle.model.specs.Reading.{movedWord}
 use Rattle.model.specs.Check.{check}
@@ -74,6 +74,10 @@ plotTypes = row 2 0 0 0 0 0 0 0 0 ++ row 1 0 0 0 0 0 0 0 0 ++ row 2 anyWord (tag
 abbrev pub plotTags : List ℕ
 plotTags = 0 ∷ 1 ∷ []
 
+-- the check of a routine over these types and tags
+abbrev pub plotCheck : List ℕ → List ℕ → Verdict
+plotCheck blocks code = check plotTypes plotTags (codeOf blocks code)
+
 -- 01: 'Block 0, r1 Ref 2 .. Block 2, r3 Tagged constant 1 .. Block 3, r3 Ref', of a type left open
 abbrev pub stageBlocks : ℕ → List ℕ
 stageBlocks t =
@@ -85,9 +89,9 @@ stageBlocks t =
 abbrev pub stageCode : List ℕ
 stageCode = loadWord 2 1 0 ∷ loadWord 3 1 1 ∷ ifEqualWord 2 1 2 ∷ haltWord ∷ ifEqualWord 3 0 1 ∷ loadWord 4 3 0 ∷ haltWord ∷ []
 
--- 01: 'r1 Ref 2, r4 Ref 1, r5 Same constant 1', and r6 Ref 2
-abbrev pub storeBlock : ℕ → List ℕ
-storeBlock n = row n 0 (refWord 2) 0 0 (refWord 1) (sameWord (constantByte 1)) (refWord 2) 0
+-- 01: 'r1 Ref 2, r4 Ref 1, r5 Same constant 1', with a type for r6
+abbrev pub storeBlock : ℕ → ℕ → List ℕ
+storeBlock n r6 = row n 0 (refWord 2) 0 0 (refWord 1) (sameWord (constantByte 1)) r6 0
 
 -- r1 Run of type 0 from r2 to r3; block 2 wants In
 abbrev pub belowBlocks : List ℕ
@@ -103,19 +107,19 @@ threeTypes = row 3 0 0 0 0 0 0 0 0
 -- ---- the cases
 
 pub record Cases : Type 0 where
-  pub untestedPointer : check plotTypes plotTags (row 3 0 (refWord 2) 0 0 0 0 0 0) (loadWord 2 1 1 ∷ loadWord 3 2 0 ∷ haltWord ∷ []) ≡ verdict 10 0 1
-  pub testedPointer : check plotTypes plotTags (stageBlocks 1) stageCode ≡ verdict 0 0 0
-  pub otherType : check plotTypes plotTags (stageBlocks 0) stageCode ≡ verdict 15 2 4
-  pub bothStores : check plotTypes plotTags (storeBlock 3) (storeWord 5 1 0 ∷ storeWord 4 1 1 ∷ haltWord ∷ []) ≡ verdict 0 0 0
-  pub oneStore : check plotTypes plotTags (storeBlock 2) (storeWord 5 1 0 ∷ haltWord ∷ []) ≡ verdict 13 0 1
-  pub otherBase : check plotTypes plotTags (storeBlock 4) (storeWord 5 1 0 ∷ loadWord 7 6 0 ∷ storeWord 4 1 1 ∷ haltWord ∷ []) ≡ verdict 12 0 1
-  pub belowAlone : check plotTypes plotTags belowBlocks (ifLessWord 1 3 2 ∷ haltWord ∷ haltWord ∷ []) ≡ verdict 14 0 0
+  pub untestedPointer : plotCheck (row 3 0 (refWord 2) 0 0 0 0 0 0) (loadWord 2 1 1 ∷ loadWord 3 2 0 ∷ haltWord ∷ []) ≡ verdict 10 0 1
+  pub testedPointer : plotCheck (stageBlocks 1) stageCode ≡ verdict 0 0 0
+  pub otherType : plotCheck (stageBlocks 0) stageCode ≡ verdict 15 2 4
+  pub bothStores : plotCheck (storeBlock 3 anyWord) (storeWord 5 1 0 ∷ storeWord 4 1 1 ∷ haltWord ∷ []) ≡ verdict 0 0 0
+  pub oneStore : plotCheck (storeBlock 2 anyWord) (storeWord 5 1 0 ∷ haltWord ∷ []) ≡ verdict 13 0 1
+  pub otherBase : plotCheck (storeBlock 4 (refWord 2)) (storeWord 5 1 0 ∷ loadWord 7 6 0 ∷ storeWord 4 1 1 ∷ haltWord ∷ []) ≡ verdict 12 0 1
+  pub belowAlone : plotCheck belowBlocks (ifLessWord 1 3 2 ∷ haltWord ∷ haltWord ∷ []) ≡ verdict 14 0 0
   pub twoBack : movedWord (tablesOf plotTypes plotTags) (runWord 0 2 3) 65534 ≡ runWord 0 2 3
-  pub twoBackMeets : check plotTypes plotTags moveBlocks (moveWord 1 1 65534 ∷ jumpWord 1 ∷ haltWord ∷ []) ≡ verdict 0 0 0
+  pub twoBackMeets : plotCheck moveBlocks (moveWord 1 1 65534 ∷ jumpWord 1 ∷ haltWord ∷ []) ≡ verdict 0 0 0
   pub threeOn : movedWord (tablesOf plotTypes plotTags) (runWord 0 2 3) 3 ≡ anyWord
-  pub threeOnMisses : check plotTypes plotTags moveBlocks (moveWord 1 1 3 ∷ jumpWord 1 ∷ haltWord ∷ []) ≡ verdict 14 0 1
+  pub threeOnMisses : plotCheck moveBlocks (moveWord 1 1 3 ∷ jumpWord 1 ∷ haltWord ∷ []) ≡ verdict 14 0 1
   pub sizeThree : movedWord (tablesOf threeTypes []) (runWord 0 2 3) 3 ≡ anyWord
-  pub sizeThreeMisses : check threeTypes [] moveBlocks (moveWord 1 1 3 ∷ jumpWord 1 ∷ haltWord ∷ []) ≡ verdict 14 0 1
+  pub sizeThreeMisses : check threeTypes [] (codeOf moveBlocks (moveWord 1 1 3 ∷ jumpWord 1 ∷ haltWord ∷ [])) ≡ verdict 14 0 1
   pub zeroLessOne : effect (move 0 1 65535) (0 ∷ 0 ∷ []) ≡ put 0 4294967295
   pub wrappedProduct : effect (multiply 0 1 1) (0 ∷ 65536 ∷ []) ≡ put 0 0
   pub halfOfSeven : effect (divide 0 1 2) (0 ∷ 7 ∷ []) ≡ put 0 3

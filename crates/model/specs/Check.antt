@@ -1,19 +1,20 @@
 -- The check of a routine: Q1 to Q6, then Q7 to Q15 instruction by instruction.
 use mathlib.Core.Bool.{Bool, not}
-use mathlib.Core.List.{List}
+use mathlib.Core.List.{List, [], _∷_}
 use Prim.Native.Nat.{ℕ, zero, suc, _+_}
 use lib.Dec.{ltb, eqb}
 use lib.ListN.{length, getD}
 use Rattle.model.specs.declared.Verdict.{Verdict}
 use Rattle.model.specs.declared.Reference.{Reference}
 use Rattle.model.specs.declared.Reference.the-variants.{To, Nothing}
-use Rattle.model.specs.Question.{_or_, Question, q7, q8, q9, q10, q11, q12, q13, q14, q15, Refusal, refusal, Outcome, ok, refused, ask, asked}
-use Rattle.model.specs.Question.{then, firstNo, verdictOf}
-use Rattle.model.specs.Table.{Tables, tablesOf, Routine, routineOf, typeLengthsAsk, codeLengthsAsk, typesAsk, lengthsAsk, annotationsAsk}
+use Rattle.model.specs.Question.{_or_, Question, q10, q11, q12, q13, q14, q15, Refusal, refusal}
+use Rattle.model.specs.Question.{Outcome, ok, refused, ask, asked, then, inOrder, firstNo, verdictOf}
+use Rattle.model.specs.Table.{rows, Tables, tablesOf, Code, Routine, routineOf, lastAt}
+use Rattle.model.specs.Table.{typeLengthsAsk, codeLengthsAsk, typesAsk, lengthsAsk, annotationsAsk}
 use Rattle.model.specs.Machine.{Plain, constant, copy, add, subtract, multiply, divide, move, load, store, End, halt, jump, ifEqual, ifLess}
-use Rattle.model.specs.Machine.{Instruction, plain, end, malformed, instructionAt, targetsExist}
-use Rattle.model.specs.Reading.{Values, typed, birthplace, rowFits, referenceOf, Reading, entry, putRegister, fresh, movedWord, isOpen, look}
-use Rattle.model.specs.Reading.{loaded, stored, taken, untaken}
+use Rattle.model.specs.Machine.{Instruction, instructionAt, formAsk}
+use Rattle.model.specs.Reading.{Values, typed, birthplace, rowFits, referenceOf, Reading, entry, putRegister, fresh, movedWord}
+use Rattle.model.specs.Reading.{isOpen, look, loaded, stored, taken, untaken}
 
 -- the value in a register
 abbrev pub valueIn : Reading → ℕ → ℕ
@@ -33,7 +34,7 @@ module _ (𝒯 : Tables) where
   mayTouch st v = not (isOpen st) or eqb (st .base) v
 
   -- Q10, Q11, Q12 of an access through register b at offset c
-  unfoldable pub onRecord : (Question → Refusal) → Reading → ℕ → ℕ → (ℕ → Outcome Reading) → Outcome Reading
+  unfoldable pub onRecord : {A : Type 0} → (Question → Refusal) → Reading → ℕ → ℕ → (ℕ → Outcome A) → Outcome A
   onRecord place st b c k =
       withReference (referenceIn st b) (place q10) λ t.
       ask (ltb c (𝒯 .size t)) (place q11) λ _.
@@ -74,24 +75,21 @@ module _ (𝒯 : Tables) (P : Routine) where
   abbrev pub noAt : ℕ → ℕ → Question → Refusal
   noAt b j q = refusal q b (P .start b + j)
 
-  abbrev pub lastAt : ℕ → ℕ → Bool
-  lastAt b j = eqb (suc j) (P .long b)
-
-  -- Q7 to Q15 of the instruction at offset j of block b, and the reading after it
-  unfoldable pub readInstruction : ℕ → ℕ → Instruction → Reading → Outcome Reading
-  readInstruction b j malformed st = refused (noAt b j q7)
-  readInstruction b j (plain x) st =
-      ask (not (lastAt b j)) (noAt b j q8) λ _.
-      readPlain 𝒯 (noAt b j) (suc j) x st
-  readInstruction b j (end e) st =
-      ask (lastAt b j) (noAt b j q8) λ _.
-      ask (targetsExist (P .count) b e) (noAt b j q9) λ _.
-      ask (not (isOpen st)) (noAt b j q13) λ _.
-      then (readEdges (noAt b j) (suc b) e st) λ _.
+  -- Q13 to Q15 at the end of block b
+  unfoldable pub readEnd : (Question → Refusal) → ℕ → End → Reading → Outcome Reading
+  readEnd place b e st =
+      ask (not (isOpen st)) (place q13) λ _.
+      then (readEdges place (suc b) e st) λ _.
       ok st
 
+  -- Q7 to Q15 of an instruction of block b, its last or not, whose values are born at g, and the reading after it
+  unfoldable pub readInstruction : (Question → Refusal) → ℕ → ℕ → Bool → Instruction → Reading → Outcome Reading
+  readInstruction place b g last x st =
+      formAsk (λ q. refused (place q)) (P .count) b last
+      (λ y. readPlain 𝒯 place g y st) (λ e. readEnd place b e st) x
+
   abbrev pub readAt : ℕ → ℕ → Reading → Outcome Reading
-  readAt b j st = readInstruction b j (instructionAt P b j) st
+  readAt b j st = readInstruction (noAt b j) b (suc j) (lastAt P b j) (instructionAt P b j) st
 
   -- n instructions of block b from offset j on
   unfoldable pub readOn : ℕ → ℕ → ℕ → Reading → Outcome (Unit {0})
@@ -120,14 +118,21 @@ module _ (𝒯 : Tables) (P : Routine) where
 
 -- ---- the public call
 
-unfoldable pub checkAsk : List ℕ → List ℕ → List ℕ → List ℕ → Outcome (Unit {0})
-checkAsk types tags blocks code =
-    then (typeLengthsAsk (length types) (length tags)) λ _.
-    then (codeLengthsAsk (length blocks) (length code)) λ _.
-    then (typesAsk (tablesOf types tags)) λ _.
-    then (lengthsAsk (routineOf blocks code)) λ _.
-    then (annotationsAsk (tablesOf types tags) (routineOf blocks code)) λ _.
-    judge (tablesOf types tags) (routineOf blocks code)
+-- 01: 'Each of Q1 to Q6 runs over all rows before the next'
+abbrev pub tableQuestions : List ℕ → List ℕ → Code → List (Outcome (Unit {0}))
+tableQuestions types tags C =
+    typeLengthsAsk (length types) (length tags)
+    ∷ codeLengthsAsk (length (C .blocks)) (length (C .code))
+    ∷ typesAsk types tags
+    ∷ lengthsAsk (C .blocks) (length (C .code))
+    ∷ annotationsAsk (rows types) (C .blocks)
+    ∷ []
 
-unfoldable pub check : List ℕ → List ℕ → List ℕ → List ℕ → Verdict
-check types tags blocks code = verdictOf (checkAsk types tags blocks code)
+unfoldable pub tablesAsk : List ℕ → List ℕ → Code → Outcome (Unit {0})
+tablesAsk types tags C = inOrder (tableQuestions types tags C)
+
+unfoldable pub checkAsk : List ℕ → List ℕ → Code → Outcome (Unit {0})
+checkAsk types tags C = then (tablesAsk types tags C) λ _. judge (tablesOf types tags) (routineOf C)
+
+unfoldable pub check : List ℕ → List ℕ → Code → Verdict
+check types tags C = verdictOf (checkAsk types tags C)

@@ -6,9 +6,9 @@ use Prim.Native.Nat.{ℕ, zero, suc, _+_, _/_, _%_, _<_}
 use lib.Dec.{ltb, leb, eqb}
 use lib.ListN.{length, getD, set}
 use Rattle.model.specs.declared.RunAnswer.{RunAnswer}
-use Rattle.model.specs.Question.{_and_, pick, Question, numberOf, q7, q8, q9, q16, q17, q18, q22, Refusal, refusal, Outcome, ok, refused, asked, then}
+use Rattle.model.specs.Question.{_and_, pick, Question, numberOf, q7, q8, q9, q18, q22, Refusal, provided, Outcome, ok, refused, inOrder}
 use Rattle.model.specs.Word.{opcodeOf, aOf, bOf, cOf, sum, difference, product, signed, moved}
-use Rattle.model.specs.Table.{Routine, routineOf, codeLengthsAsk, lengthsAsk}
+use Rattle.model.specs.Table.{registerCount, Code, Routine, routineOf, lastAt, codeLengthsAsk, lengthsAsk, startAsk, memoryLengthAsk}
 
 -- ---- instructions
 
@@ -36,7 +36,7 @@ pub data Instruction : Type 0 where
   malformed : Instruction
 
 abbrev pub register : ℕ → Bool
-register x = ltb x 8
+register x = ltb x registerCount
 
 abbrev pub unused : ℕ → Bool
 unused x = eqb x 0
@@ -78,6 +78,21 @@ hasForm malformed = false
 
 unfoldable pub wellFormed : ℕ → Bool
 wellFormed w = hasForm (decode w)
+
+-- Q9
+unfoldable pub targetsExist : ℕ → ℕ → End → Bool
+targetsExist count b halt = true
+targetsExist count b (jump t) = ltb t count
+targetsExist count b (ifEqual x k t) = ltb t count and ltb (suc b) count
+targetsExist count b (ifLess x y t) = ltb t count and ltb (suc b) count
+
+-- 01: 'Q7 Known opcode, parts in range, divisor not 0? 7. Q8 Block-ending opcode at the block's end and only there? 8. Q9 Do the
+-- target of 10 to 12 and the block after 11 or 12 exist? 9': check and run alike ask them of an instruction of block b, the block's
+-- last or not, and go on by what it is.
+unfoldable pub formAsk : {A : Type 0} → (Question → A) → ℕ → ℕ → Bool → (Plain → A) → (End → A) → Instruction → A
+formAsk refuse count b last inside atEnd malformed = refuse q7
+formAsk refuse count b last inside atEnd (plain x) = provided (not last) (refuse q8) λ _. inside x
+formAsk refuse count b last inside atEnd (end e) = provided last (refuse q8) λ _. provided (targetsExist count b e) (refuse q9) λ _. atEnd e
 
 -- ---- one instruction
 
@@ -131,13 +146,6 @@ next (jump t) b r = enter t
 next (ifEqual x k t) b r = pick (eqb (reg r x) k) (enter t) (enter (suc b))
 next (ifLess x y t) b r = pick (ltb (reg r x) (reg r y)) (enter t) (enter (suc b))
 
--- Q9
-unfoldable pub targetsExist : ℕ → ℕ → End → Bool
-targetsExist count b halt = true
-targetsExist count b (jump t) = ltb t count
-targetsExist count b (ifEqual x k t) = ltb t count and ltb (suc b) count
-targetsExist count b (ifLess x y t) = ltb t count and ltb (suc b) count
-
 -- ---- states and steps
 
 -- before the instruction at an offset of a block, with the blocks finished and the instructions carried out so far
@@ -155,9 +163,8 @@ pub data Step : Type 0 where
   halts : State → Step
   faults : Question → State → Step
 
-unfoldable pub need : Bool → Question → State → (Unit {0} → Step) → Step
-need true q s k = k tt
-need false q s k = faults q s
+abbrev pub need : Bool → Question → State → (Unit {0} → Step) → Step
+need b q s k = provided b (faults q s) k
 
 abbrev pub after : State → Effect → State
 after s f =
@@ -201,23 +208,20 @@ module _ (P : Routine) where
   abbrev pub indexOf : State → ℕ
   indexOf s = P .start (s .block) + s .offset
 
-  abbrev pub atEnd : State → Bool
-  atEnd s = eqb (suc (s .offset)) (P .long (s .block))
-
   abbrev pub instructionAt : ℕ → ℕ → Instruction
   instructionAt b j = decode (getD (P .part b) j 0)
 
-  -- Q7, Q8, Q9, Q18, then the instruction
-  unfoldable pub perform : Instruction → State → Step
-  perform malformed s = faults q7 s
-  perform (plain x) s =
-      need (not (atEnd s)) q8 s λ _.
+  -- Q18, then an instruction inside a block
+  unfoldable pub carryOut : Plain → State → Step
+  carryOut x s =
       need (addressed (effect x (s .registers)) (s .memory)) q18 s λ _.
       goes (after s (effect x (s .registers)))
-  perform (end e) s =
-      need (atEnd s) q8 s λ _.
-      need (targetsExist (P .count) (s .block) e) q9 s λ _.
-      leave s (next e (s .block) (s .registers))
+
+  -- Q7, Q8, Q9, then the instruction
+  unfoldable pub perform : Instruction → State → Step
+  perform x s =
+      formAsk (λ q. faults q s) (P .count) (s .block) (lastAt P (s .block) (s .offset))
+      (λ y. carryOut y s) (λ e. leave s (next e (s .block) (s .registers))) x
 
   -- 01: 'then each instruction: Q22 code index below the code length? 22; Q7, Q8, Q9; Q18 address below the memory length? 18'
   unfoldable pub step : State → Step
@@ -300,32 +304,37 @@ refusedRun r registers memory =
       carried = 0;
     }
 
--- Q16
-unfoldable pub startAsk : Routine → ℕ → Outcome (Unit {0})
-startAsk P b = asked (ltb b (P .count)) (refusal q16 0 0)
-
--- Q17. 01: 'Memory: 1 to 16,384 words'
-unfoldable pub memoryLengthAsk : ℕ → Outcome (Unit {0})
-memoryLengthAsk n = asked (leb 1 n and leb n 16384) (refusal q17 0 0)
-
 -- 01: 'Run: Q1 and Q5 for blocks and code; Q16 start block exists? 16; Q17 memory length in bounds? 17'
-unfoldable pub runAsk : List ℕ → List ℕ → List ℕ → ℕ → Outcome (Unit {0})
-runAsk blocks code memory b =
-    then (codeLengthsAsk (length blocks) (length code)) λ _.
-    then (lengthsAsk (routineOf blocks code)) λ _.
-    then (startAsk (routineOf blocks code) b) λ _.
-    memoryLengthAsk (length memory)
+abbrev pub runQuestions : Code → List ℕ → ℕ → List (Outcome (Unit {0}))
+runQuestions C memory b =
+    codeLengthsAsk (length (C .blocks)) (length (C .code))
+    ∷ lengthsAsk (C .blocks) (length (C .code))
+    ∷ startAsk (C .blocks) b
+    ∷ memoryLengthAsk (length memory)
+    ∷ []
 
-abbrev pub begin : ℕ → List ℕ → List ℕ → State
-begin b registers memory = record { block = b; offset = 0; registers = registers; memory = memory; finished = 0; carried = 0 }
+unfoldable pub runAsk : Code → List ℕ → ℕ → Outcome (Unit {0})
+runAsk C memory b = inOrder (runQuestions C memory b)
 
-unfoldable pub opened : Outcome (Unit {0}) → Routine → List ℕ → ℕ → List ℕ → ℕ → Run
-opened (ok u) P memory b registers budget = answerOf P (runBlocks P budget (begin b registers memory))
-opened (refused r) P memory b registers budget = refusedRun r registers memory
+-- What a routine goes on with. 01: 'A run takes a start block, registers'; 'A paused routine resumes with exactly what it returned'
+pub record Ready : Type 0 where
+  pub block : ℕ
+  pub registers : List ℕ
+
+abbrev pub ready : ℕ → List ℕ → Ready
+ready b r = record { block = b; registers = r }
+
+-- before the first instruction
+abbrev pub begin : Ready → List ℕ → State
+begin g memory = record { block = g .block; offset = 0; registers = g .registers; memory = memory; finished = 0; carried = 0 }
+
+unfoldable pub opened : Outcome (Unit {0}) → Routine → List ℕ → Ready → ℕ → Run
+opened (ok u) P memory g budget = answerOf P (runBlocks P budget (begin g memory))
+opened (refused r) P memory g budget = refusedRun r (g .registers) memory
 
 -- the public call
-unfoldable pub run : List ℕ → List ℕ → List ℕ → ℕ → List ℕ → ℕ → Run
-run blocks code memory b registers budget = opened (runAsk blocks code memory b) (routineOf blocks code) memory b registers budget
+unfoldable pub run : Code → List ℕ → Ready → ℕ → Run
+run C memory g budget = opened (runAsk C memory (g .block)) (routineOf C) memory g budget
 
 -- 01: 'It returns number, block, code index, blocks finished and registers'
 abbrev pub returned : Run → RunAnswer

@@ -110,10 +110,13 @@ pub data Outcome (A : Type 0) : Type 0 where
   ok : A → Outcome A
   refused : Refusal → Outcome A
 
--- a question; what follows is asked after a yes only
-unfoldable pub ask : {A : Type 0} → Bool → Refusal → (Unit {0} → Outcome A) → Outcome A
-ask true r k = k tt
-ask false r k = refused r
+-- a question: what follows after a yes, or else what a no comes to
+unfoldable pub provided : {A : Type 0} → Bool → A → (Unit {0} → A) → A
+provided true x k = k tt
+provided false x k = x
+
+abbrev pub ask : {A : Type 0} → Bool → Refusal → (Unit {0} → Outcome A) → Outcome A
+ask b r k = provided b (refused r) k
 
 -- questions, and those that follow where none of them had a no
 unfoldable pub then : {A B : Type 0} → Outcome A → (A → Outcome B) → Outcome B
@@ -123,6 +126,11 @@ then (refused r) k = refused r
 -- one question alone
 abbrev pub asked : Bool → Refusal → Outcome (Unit {0})
 asked b r = ask b r (λ _. ok tt)
+
+-- rows of questions in order, each put where none before it had a no
+unfoldable pub inOrder : List (Outcome (Unit {0})) → Outcome (Unit {0})
+inOrder [] = ok tt
+inOrder (q ∷ rest) = then q λ _. inOrder rest
 
 -- the same question of each of the n rows from i on, in order
 unfoldable pub firstNo : ℕ → ℕ → (ℕ → Outcome (Unit {0})) → Outcome (Unit {0})

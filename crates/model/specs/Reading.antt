@@ -1,12 +1,13 @@
 -- How a block is read: values, what is known of them, what they fit, loads and stores, the open record, edges.
 use mathlib.Core.Bool.{Bool, true, false}
 use mathlib.Core.List.{List, [], _∷_, _++_}
-use Prim.Native.Nat.{ℕ, zero, suc, _+_, _*_, _/_, _%_, _^_}
+use Prim.Native.Nat.{ℕ, zero, suc, _+_, _*_, _/_, _%_}
 use lib.Dec.{ltb, leb, eqb}
 use lib.ListN.{length, getD, set, replicate}
 use Rattle.model.specs.declared.Reference.{Reference}
 use Rattle.model.specs.declared.Reference.the-variants.{To, Nothing}
 use Rattle.model.specs.Question.{_and_, _or_, pick, every}
+use Rattle.model.specs.Word.{withKind}
 use Rattle.model.specs.Types.{Dep, name, con, Ty, any, ref, maybe, tagged, present, same, span, typeOf, rename}
 use Rattle.model.specs.Table.{Tables}
 use Rattle.model.specs.Machine.{End, halt, jump, ifEqual, ifLess}
@@ -33,9 +34,9 @@ typed vs v = rename (λ i. getD (vs .frames) (birthplace v) 0 + i) (typeOf (getD
 
 -- ---- known constants
 
-abbrev pub held : ℕ → List ℕ
-held zero = []
-held (suc c) = c ∷ []
+abbrev pub constantHeld : ℕ → List ℕ
+constantHeld zero = []
+constantHeld (suc c) = c ∷ []
 
 -- 01: 'A value of type Same with a constant has that known constant'
 abbrev pub sameConstant : Ty → List ℕ
@@ -55,7 +56,7 @@ ownConstant vs v = pick (eqb (getD (vs .words) v 0) 0) (getD (vs .constants) (bi
 -- 01: 'Opcode 11 taken: ra is known to be the constant'
 unfoldable pub constantsOf : Values → Dep → List ℕ
 constantsOf vs (name v) =
-    held (ownConstant vs v) ++ sameConstant (typed vs v) ++ held (pick (eqb v (vs .tested)) (vs .equal) 0)
+    constantHeld (ownConstant vs v) ++ sameConstant (typed vs v) ++ constantHeld (pick (eqb v (vs .tested)) (vs .equal) 0)
 constantsOf vs (con c) = c ∷ []
 
 -- some constant passes
@@ -263,12 +264,8 @@ fresh st g a word frame constant =
 
 -- ---- opcode 7
 
--- the same word with another kind
-abbrev pub withKind : ℕ → ℕ → ℕ
-withKind k w = k * 2 ^ 24 + w % 2 ^ 24
-
-abbrev pub steady : ℕ → Bool
-steady z = eqb z 1 or eqb z 2 or eqb z 4 or eqb z 8
+abbrev pub powerOfTwo : ℕ → Bool
+powerOfTwo z = eqb z 1 or eqb z 2 or eqb z 4 or eqb z 8
 
 -- 01: 'opcode 7 on Run, From or In gives Run with the same T, d, e if the size is 1, 2, 4 or 8 and divides c'; for these sizes c
 -- as it stands is a multiple exactly where the signed c is
@@ -279,7 +276,7 @@ moves 𝒯 (maybe t) c = false
 moves 𝒯 (tagged d) c = false
 moves 𝒯 (present d) c = false
 moves 𝒯 (same d) c = false
-moves 𝒯 (span k t d e) c = steady (𝒯 .size t) and eqb (c % 𝒯 .size t) 0
+moves 𝒯 (span k t d e) c = powerOfTwo (𝒯 .size t) and eqb (c % 𝒯 .size t) 0
 
 unfoldable pub movedWord : Tables → ℕ → ℕ → ℕ
 movedWord 𝒯 w c = pick (moves 𝒯 (typeOf w) c) (withKind 6 w) 0

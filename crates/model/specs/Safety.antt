@@ -8,11 +8,11 @@ use Rattle.model.specs.Word.{sum}
 use Rattle.model.specs.Table.{Tables, tablesOf, Routine, routineOf}
 use Rattle.model.specs.Meaning.{RecordMeets, RegistersMeet, Outside}
 use Rattle.model.specs.Allocation.{Allocated}
-use Rattle.model.specs.Machine.{load, store, plain, instructionAt, reg, State, halts, step, Passes, Run, answerAt}
+use Rattle.model.specs.Machine.{load, store, plain, instructionAt, reg, State, halts, step, Passes, Run, answerAt, Ready, ready, begin}
 use Rattle.model.specs.Check.{given, check}
 use Rattle.model.specs.MemoryCheck.{memoryCheck, entryCheck}
-use Rattle.model.specs.Turns.{Ready, ready, Task, waiting, done, World, Call, turn, checking, checkingMemory, checkingEntry, running}
-use Rattle.model.specs.Turns.{settled, stateOf, turnRun, afterCall, atStart, Allowed}
+use Rattle.model.specs.Turns.{Task, waiting, done, World, Call, turn, checking, checkingMemory, checkingEntry, running}
+use Rattle.model.specs.Turns.{settled, turnRun, afterCall, atStart, Allowed}
 
 -- The n routines of tasks, over a type table, a tag table, a list of allocations and a memory.
 module _ (types tags allocations memory : List ℕ) (n : ℕ) (tasks : ℕ → Task) where
@@ -20,19 +20,18 @@ module _ (types tags allocations memory : List ℕ) (n : ℕ) (tasks : ℕ → T
   𝒯 = tablesOf types tags
 
   abbrev pub P : ℕ → Routine
-  P i = routineOf (tasks i .blocks) (tasks i .code)
+  P i = routineOf (tasks i .code)
 
   -- Each routine is accepted, whoever wrote its annotations; memory and registers passed their checks, the registers of each
   -- routine over some memory with these allocations.
   pub record Checked : Type 0 where
     pub memoryPassed : memoryCheck types tags allocations memory .number ≡ 0
-    pub accepted : (i : ℕ) → i < n → check types tags (tasks i .blocks) (tasks i .code) .number ≡ 0
+    pub accepted : (i : ℕ) → i < n → check types tags (tasks i .code) .number ≡ 0
     pub eight : (i : ℕ) → i < n → length (tasks i .start .registers) ≡ 8
-    pub entered : (i : ℕ) → i < n → (m : List ℕ)
-        × (entryCheck types tags allocations m (tasks i .blocks) (tasks i .code) (tasks i .start .block) (tasks i .start .registers) .number ≡ 0)
+    pub entered : (i : ℕ) → i < n → (m : List ℕ) × (entryCheck types tags allocations m (tasks i .code) (tasks i .start) .number ≡ 0)
 
   -- All records, and the registers of every routine that has not halted, fit their types; each word outside is as at the start.
-  pub record Fit (w : World) : Type 0 where
+  pub record AllFit (w : World) : Type 0 where
     pub records : (p t : ℕ) → Allocated allocations p t → RecordMeets 𝒯 (Allocated allocations) (w .memory) p t
     pub registers : (i : ℕ) (g : Ready) → w .standing i ≡ waiting g
         → (g .block < P i .count) × RegistersMeet 𝒯 (Allocated allocations) (P i .annotation (g .block)) (g .registers)
@@ -52,27 +51,27 @@ module _ (types tags allocations memory : List ℕ) (n : ℕ) (tasks : ℕ → T
     halting : {s s' : State} → Passes (P i) budget s₀ s → s .finished < budget → step (P i) s ≡ halts s' → a ≡ answerAt (P i) 0 s' → Ends i budget s₀ a
 
   abbrev pub Visits : World → ℕ → ℕ → Ready → State → Type 0
-  Visits w i budget g s = Passes (P i) budget (stateOf g (w .memory)) s
+  Visits w i budget g s = Passes (P i) budget (begin g (w .memory)) s
 
   -- What holds of every state that a turn passes through, block ends inside the run and the halt among them.
   pub record TurnSafe (w : World) (i budget : ℕ) (g : Ready) : Type 0 where
-    pub ends : Ends i budget (stateOf g (w .memory)) (turnRun tasks w i budget g)
+    pub ends : Ends i budget (begin g (w .memory)) (turnRun tasks w i budget g)
     pub loads : (s : State) → Visits w i budget g s → (a c d : ℕ) → instructionAt (P i) (s .block) (s .offset) ≡ plain (load a c d) → InField i s c d
     pub stores : (s : State) → Visits w i budget g s → (a c d : ℕ) → instructionAt (P i) (s .block) (s .offset) ≡ plain (store a c d) → InField i s c d
-    pub blockEnds : (s : State) → Visits w i budget g s → s .offset ≡ 0 → Fit (settled w i (s .memory) (waiting (ready (s .block) (s .registers))))
-    pub atHalt : (s s' : State) → Visits w i budget g s → step (P i) s ≡ halts s' → Fit (settled w i (s' .memory) done)
+    pub blockEnds : (s : State) → Visits w i budget g s → s .offset ≡ 0 → AllFit (settled w i (s .memory) (waiting (ready (s .block) (s .registers))))
+    pub atHalt : (s s' : State) → Visits w i budget g s → step (P i) s ≡ halts s' → AllFit (settled w i (s' .memory) done)
 
   abbrev pub CallSafe : Call → World → Type 0
   CallSafe (turn i budget) w = (g : Ready) → w .standing i ≡ waiting g → TurnSafe w i budget g
-  CallSafe (checking types' tags' blocks code) w = Unit {0}
+  CallSafe (checking types' tags' C) w = Unit {0}
   CallSafe (checkingMemory types' tags' allocations' memory') w = Unit {0}
-  CallSafe (checkingEntry types' tags' allocations' memory' blocks code b r) w = Unit {0}
-  CallSafe (running blocks code b r budget) w = Allowed (running blocks code b r budget) w → afterCall tasks (running blocks code b r budget) w ≡ w
+  CallSafe (checkingEntry types' tags' allocations' memory' C g) w = Unit {0}
+  CallSafe (running C g budget) w = Allowed (running C g budget) w → afterCall tasks (running C g budget) w ≡ w
 
   -- Every call of a list is safe, and everything fits before and after each.
   abbrev pub Safe : List Call → World → Type 0
-  Safe [] w = Fit w
-  Safe (c ∷ cs) w = Fit w × CallSafe c w × (Allowed c w → Safe cs (afterCall tasks c w))
+  Safe [] w = AllFit w
+  Safe (c ∷ cs) w = AllFit w × CallSafe c w × (Allowed c w → Safe cs (afterCall tasks c w))
 
 -- Take one routine or several, in any turns, with any budgets, checks and refused runs anywhere between.
 unfoldable pub Demand3 : Type 0

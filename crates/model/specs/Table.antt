@@ -1,12 +1,55 @@
--- The tables: rows, well-made words, where blocks start, and the questions Q1 to Q6.
+-- The tables: rows, well-made words, where blocks start, and the questions of tables alone: Q1 to Q6, Q16 and Q17.
 use mathlib.Core.Bool.{Bool}
-use mathlib.Core.List.{List}
+use mathlib.Core.List.{List, [], _∷_}
 use Prim.Native.Nat.{ℕ, zero, suc, _+_, _*_, _/_, _%_}
 use lib.Dec.{ltb, leb, eqb}
 use lib.ListN.{length, getD, take, drop}
-use Rattle.model.specs.Question.{_and_, _or_, pick, every, q1, q2, q3, q4, q5, q6, refusal, Outcome, ask, asked, then, firstNo}
+use Rattle.model.specs.Question.{_and_, _or_, pick, every, q1, q2, q3, q4, q5, q6, q16, q17, refusal}
+use Rattle.model.specs.Question.{Outcome, ask, asked, inOrder, firstNo}
 use Rattle.model.specs.Word.{kindOf, recordOf, firstOf, secondOf}
 use Rattle.model.specs.Types.{Ty, typeOf}
+
+-- ---- the bounds of document 01
+
+-- 01: 'Record types: 1 to 64 rows of 9 words'
+abbrev pub typesMost : ℕ
+typesMost = 64
+
+-- 01: 'Tags: 0 to 64 words'
+abbrev pub tagsMost : ℕ
+tagsMost = 64
+
+-- 01: 'Blocks: 1 to 256 rows of 9 words'
+abbrev pub blocksMost : ℕ
+blocksMost = 256
+
+-- 01: 'Code: 1 to 8,192 instructions'
+abbrev pub codeMost : ℕ
+codeMost = 8192
+
+-- 01: 'Allocations: 0 to 4,096 rows of 2 words'
+abbrev pub allocationsMost : ℕ
+allocationsMost = 4096
+
+-- 01: 'Memory: 1 to 16,384 words'
+abbrev pub memoryMost : ℕ
+memoryMost = 16384
+
+-- 01: 'field count n (1 to 8)'
+abbrev pub fieldsMost : ℕ
+fieldsMost = 8
+
+-- 01: 'then 8 type words'
+abbrev pub typeWords : ℕ
+typeWords = 8
+
+-- 01: 'length 1 to 32'
+abbrev pub lengthMost : ℕ
+lengthMost = 32
+
+-- 01: 'Eight registers r0 to r7'
+abbrev pub registerCount : ℕ
+registerCount = 8
 
 -- ---- rows
 
@@ -43,6 +86,14 @@ fieldOf 𝒯 t f = typeOf (getD (𝒯 .words t) f 0)
 
 -- ---- what is read of the block and code tables
 
+-- the tables of a routine
+pub record Code : Type 0 where
+  pub blocks : List ℕ
+  pub code : List ℕ
+
+abbrev pub codeOf : List ℕ → List ℕ → Code
+codeOf blocks code = record { blocks = blocks; code = code }
+
 -- 01: 'length 1 to 32, then the annotation, type words of r0 to r7. Blocks cover the code in order, without gaps'
 pub record Routine : Type 0 where
   pub count : ℕ
@@ -57,16 +108,20 @@ unfoldable pub startOf : List ℕ → ℕ → ℕ
 startOf blocks zero = 0
 startOf blocks (suc b) = startOf blocks b + headOf blocks b
 
-unfoldable pub routineOf : List ℕ → List ℕ → Routine
-routineOf blocks code =
+unfoldable pub routineOf : Code → Routine
+routineOf C =
     record {
-      count = rows blocks;
-      long = λ b. headOf blocks b;
-      start = λ b. startOf blocks b;
-      annotation = λ b. wordsOf blocks b;
-      part = λ b. take (headOf blocks b) (drop (startOf blocks b) code);
-      total = length code;
+      count = rows (C .blocks);
+      long = λ b. headOf (C .blocks) b;
+      start = λ b. startOf (C .blocks) b;
+      annotation = λ b. wordsOf (C .blocks) b;
+      part = λ b. take (headOf (C .blocks) b) (drop (startOf (C .blocks) b) (C .code));
+      total = length (C .code);
     }
+
+-- the instruction at offset j is the last of block b
+abbrev pub lastAt : Routine → ℕ → ℕ → Bool
+lastAt P b j = eqb (suc j) (P .long b)
 
 -- ---- Q1, a matter of lengths alone. Its place has the table: 0 types, 1 tags, 2 blocks, 3 code.
 
@@ -74,22 +129,22 @@ routineOf blocks code =
 abbrev pub wholeRows : ℕ → ℕ → Bool
 wholeRows most n = eqb (n % 9) 0 and leb 9 n and leb n (9 * most)
 
--- 01: 'Record types: 1 to 64 rows of 9 words'; 'Tags: 0 to 64 words'
+-- 01: 'Are lengths whole rows within bounds?', of types and tags
 unfoldable pub typeLengthsAsk : ℕ → ℕ → Outcome (Unit {0})
 typeLengthsAsk types tags =
-    ask (wholeRows 64 types) (refusal q1 0 0) λ _.
-    asked (leb tags 64) (refusal q1 1 0)
+    ask (wholeRows typesMost types) (refusal q1 0 0) λ _.
+    asked (leb tags tagsMost) (refusal q1 1 0)
 
--- 01: 'Blocks: 1 to 256 rows of 9 words'; 'Code: 1 to 8,192 instructions'
+-- the same of blocks and code
 unfoldable pub codeLengthsAsk : ℕ → ℕ → Outcome (Unit {0})
 codeLengthsAsk blocks code =
-    ask (wholeRows 256 blocks) (refusal q1 2 0) λ _.
-    asked (leb 1 code and leb code 8192) (refusal q1 3 0)
+    ask (wholeRows blocksMost blocks) (refusal q1 2 0) λ _.
+    asked (leb 1 code and leb code codeMost) (refusal q1 3 0)
 
 -- ---- Q2
 
 unfoldable pub countAsk : Tables → ℕ → Outcome (Unit {0})
-countAsk 𝒯 t = asked (leb 1 (𝒯 .size t) and leb (𝒯 .size t) 8) (refusal q2 t 0)
+countAsk 𝒯 t = asked (leb 1 (𝒯 .size t) and leb (𝒯 .size t) fieldsMost) (refusal q2 t 0)
 
 -- ---- Q3. 01: 'Parts a kind does not use are zero'
 
@@ -119,7 +174,7 @@ unfoldable pub fieldWell : Tables → ℕ → ℕ → Bool
 fieldWell 𝒯 t f = pick (ltb f (𝒯 .size t)) (wellMade (𝒯 .count) (𝒯 .size t) (getD (𝒯 .words t) f 0)) (eqb (getD (𝒯 .words t) f 0) 0)
 
 unfoldable pub fieldsAsk : Tables → ℕ → Outcome (Unit {0})
-fieldsAsk 𝒯 t = asked (every 8 0 (fieldWell 𝒯 t)) (refusal q3 t 0)
+fieldsAsk 𝒯 t = asked (every typeWords 0 (fieldWell 𝒯 t)) (refusal q3 t 0)
 
 -- ---- Q4
 
@@ -127,31 +182,44 @@ unfoldable pub tagAsk : Tables → ℕ → Outcome (Unit {0})
 tagAsk 𝒯 k = asked (ltb (getD (𝒯 .tags) k 0) (𝒯 .count)) (refusal q4 k 0)
 
 -- Q2 to Q4, each over all rows before the next
-unfoldable pub typesAsk : Tables → Outcome (Unit {0})
-typesAsk 𝒯 =
-    then (firstNo (𝒯 .count) 0 (countAsk 𝒯)) λ _.
-    then (firstNo (𝒯 .count) 0 (fieldsAsk 𝒯)) λ _.
-    firstNo (length (𝒯 .tags)) 0 (tagAsk 𝒯)
+abbrev pub typesQuestions : List ℕ → List ℕ → List (Outcome (Unit {0}))
+typesQuestions types tags =
+    firstNo (rows types) 0 (countAsk (tablesOf types tags))
+    ∷ firstNo (rows types) 0 (fieldsAsk (tablesOf types tags))
+    ∷ firstNo (length tags) 0 (tagAsk (tablesOf types tags))
+    ∷ []
+
+unfoldable pub typesAsk : List ℕ → List ℕ → Outcome (Unit {0})
+typesAsk types tags = inOrder (typesQuestions types tags)
 
 -- ---- Q5. 01: 'at the first bad length or first row past the code; if short, at the block count'
 
 -- n rows from row b on, which starts at code index i
-unfoldable pub blocksAsk : Routine → ℕ → ℕ → ℕ → Outcome (Unit {0})
-blocksAsk P zero b i = asked (eqb i (P .total)) (refusal q5 b 0)
-blocksAsk P (suc n) b i =
-    ask (leb 1 (P .long b) and leb (P .long b) 32 and leb (i + P .long b) (P .total)) (refusal q5 b 0) λ _.
-    blocksAsk P n (suc b) (i + P .long b)
+unfoldable pub blocksAsk : List ℕ → ℕ → ℕ → ℕ → ℕ → Outcome (Unit {0})
+blocksAsk blocks total zero b i = asked (eqb i total) (refusal q5 b 0)
+blocksAsk blocks total (suc n) b i =
+    ask (leb 1 (headOf blocks b) and leb (headOf blocks b) lengthMost and leb (i + headOf blocks b) total) (refusal q5 b 0) λ _.
+    blocksAsk blocks total n (suc b) (i + headOf blocks b)
 
-unfoldable pub lengthsAsk : Routine → Outcome (Unit {0})
-lengthsAsk P = blocksAsk P (P .count) 0 0
+unfoldable pub lengthsAsk : List ℕ → ℕ → Outcome (Unit {0})
+lengthsAsk blocks total = blocksAsk blocks total (rows blocks) 0 0
 
 -- ---- Q6
 
 unfoldable pub annotationWell : ℕ → ℕ → Bool
-annotationWell count w = wellMade count 8 w
+annotationWell count w = wellMade count registerCount w
 
-unfoldable pub annotationAsk : Tables → Routine → ℕ → Outcome (Unit {0})
-annotationAsk 𝒯 P b = asked (every 8 0 (λ r. annotationWell (𝒯 .count) (getD (P .annotation b) r 0))) (refusal q6 b 0)
+unfoldable pub annotationAsk : ℕ → List ℕ → ℕ → Outcome (Unit {0})
+annotationAsk count blocks b = asked (every registerCount 0 (λ r. annotationWell count (getD (wordsOf blocks b) r 0))) (refusal q6 b 0)
 
-unfoldable pub annotationsAsk : Tables → Routine → Outcome (Unit {0})
-annotationsAsk 𝒯 P = firstNo (P .count) 0 (annotationAsk 𝒯 P)
+unfoldable pub annotationsAsk : ℕ → List ℕ → Outcome (Unit {0})
+annotationsAsk count blocks = firstNo (rows blocks) 0 (annotationAsk count blocks)
+
+-- ---- Q16 and Q17. 01: '0, 0 for 16 and 17 in every call'
+
+unfoldable pub startAsk : List ℕ → ℕ → Outcome (Unit {0})
+startAsk blocks b = asked (ltb b (rows blocks)) (refusal q16 0 0)
+
+-- 01: 'Memory: 1 to 16,384 words'
+unfoldable pub memoryLengthAsk : ℕ → Outcome (Unit {0})
+memoryLengthAsk n = asked (leb 1 n and leb n memoryMost) (refusal q17 0 0)

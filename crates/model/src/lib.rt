@@ -2,6 +2,9 @@
 ghost use mathlib.Core.Path.{_≡_};
 ghost use lib.Dec.{eqb};
 
+pub mod limit;
+pub mod number;
+
 // The number of the first question with a no, 0 where there is none, and its place.
 pub struct Verdict {
     pub number: u32,
@@ -28,5 +31,5 @@ pub enum Reference {
 pub fn passes(v: Verdict) -> bool
     ensures { λ r. ⌜ r ≡ eqb (v .number) 0 ⌝ }
 {
-    v.number == 0
+    v.number == number::PASSED
 }

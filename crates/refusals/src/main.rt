@@ -1,4 +1,5 @@
 // Writes docs/REFUSALS.md: the table of answers in words, then the requests on standard input, each with its answer.
+use model::number;
 use service::Style;
 
 fn heading(out: &mut [u8; 65536], n: usize) -> usize {
@@ -49,7 +50,7 @@ fn numbered(out: &mut [u8; 65536], n: usize, row: u32) -> usize {
 // The rows of the questions.
 fn numbers(out: &mut [u8; 65536], n: usize) -> usize {
     let mut at = n;
-    let mut row = 1u32;
+    let mut row = number::TABLE_LENGTH;
     while row <= words::LAST {
         at = numbered(out, at, row);
         row += 1;
@@ -59,11 +60,11 @@ fn numbers(out: &mut [u8; 65536], n: usize) -> usize {
 
 fn table(out: &mut [u8; 65536], n: usize) -> usize {
     let a = titles(out, n);
-    let b = numbered(out, a, 0);
+    let b = numbered(out, a, number::PASSED);
     let c = output::text(out, b, b"| 0");
     let d = columns(out, c, words::HALTED);
     let e = numbers(out, d);
-    let f = numbered(out, e, 40);
+    let f = numbered(out, e, number::PAUSED);
     let g = output::text(out, f, b"| `malformed`");
     columns(out, g, words::MALFORMED)
 }

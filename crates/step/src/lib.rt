@@ -10,6 +10,8 @@ ghost use Rattle.model.specs.Table.{Routine};
 ghost use Rattle.model.specs.Machine.{decode, reg, perform};
 ghost use Rattle.instruction.specs.Rows.{opcodeRows};
 ghost use Rattle.step.specs.Answer.{at, valueOf, onRegister, onMemory, does, stepOf, past, exitOf};
+use model::limit;
+use model::number;
 
 // How a block is left: to a block, to the one after it, by a halt, or with the number of a question that had a no.
 pub enum Exit {
@@ -18,11 +20,6 @@ pub enum Exit {
     Halted,
     No(u32),
 }
-
-const REGISTERS: usize = 8;
-
-// The number of Q18.
-const OUT_OF_MEMORY: u32 = 18;
 
 // The registers with v at a.
 fn with(registers: [u32; 8], a: usize, v: u32) -> [u32; 8]
@@ -95,7 +92,7 @@ fn reach(access: u32, at: usize, a: usize, v: u32) -> Effect
     ensures { λ r. ⌜ r ≡ onMemory access at a v ⌝ }
 {
     Effect {
-        number: 0,
+        number: number::PASSED,
         access,
         at,
         a,
@@ -127,17 +124,17 @@ pub fn effect_of(rows: &[u32; 13], registers: &[u32; 8], w: u32) -> Effect
     ensures place { λ r. ⌜ r .a < 8 ⌝ }
 {
     // A place of the registers also where Q7 has a no.
-    let a = word::a(w) % REGISTERS;
+    let a = word::a(w) % limit::REGISTERS;
     let own = registers[a];
     let no = instruction::form(rows, w, false, 0, 0);
-    if no != 0 {
+    if no != number::PASSED {
         return put(no, a, own);
     }
     let op = word::opcode(w);
     let c = word::c(w);
     let x = registers[word::b(w)];
     // The register that c numbers, for the opcodes whose c is one: read before they are told apart, which takes no branch.
-    let y = registers[(c as usize) % REGISTERS];
+    let y = registers[(c as usize) % limit::REGISTERS];
     if op == instruction::LOAD {
         return reach(READ, address(x, c), a, own);
     }
@@ -145,15 +142,21 @@ pub fn effect_of(rows: &[u32; 13], registers: &[u32; 8], w: u32) -> Effect
         return reach(WRITE, address(x, c), a, own);
     }
     if op == instruction::DIVIDE {
-        return put(0, a, word::quotient(x, c));
+        return put(number::PASSED, a, word::quotient(x, c));
     }
-    put(0, a, value(op, x, y, c))
+    put(number::PASSED, a, value(op, x, y, c))
 }
 
 // The number of the question that had a no, 0 where none had, and the word that goes into register a.
 struct Handed {
     number: u32,
     v: u32,
+}
+
+fn hand(number: u32, v: u32) -> Handed
+    ensures { λ r. ⌜ r ≡ record { number = number; v = v } ⌝ }
+{
+    Handed { number, v }
 }
 
 // Q18, and memory read or written.
@@ -165,31 +168,18 @@ fn reached(memory: &mut [u32], e: Effect) -> Handed
     let at = e.at;
     if e.access == READ {
         if memory.len() <= at {
-            return Handed {
-                number: OUT_OF_MEMORY,
-                v: e.v,
-            };
+            return hand(number::ADDRESS, e.v);
         }
-        let found = memory[at];
-        return Handed {
-            number: 0,
-            v: found,
-        };
+        return hand(number::PASSED, memory[at]);
     }
     if e.access == WRITE {
         if memory.len() <= at {
-            return Handed {
-                number: OUT_OF_MEMORY,
-                v: e.v,
-            };
+            return hand(number::ADDRESS, e.v);
         }
         memory[at] = e.v;
-        return Handed { number: 0, v: e.v };
+        return hand(number::PASSED, e.v);
     }
-    Handed {
-        number: e.number,
-        v: e.v,
-    }
+    hand(e.number, e.v)
 }
 
 // The number of the question that had a no, 0 where the instruction was carried out, and the registers after it.
@@ -244,7 +234,7 @@ pub fn leave(rows: &[u32; 13], registers: &[u32; 8], w: u32, b: u32, count: u32)
         → exitOf r (at b j (now (registers .entry)) m f n) ≡ perform P (decode w) (at b j (now (registers .entry)) m f n)) ⌝ }
 {
     let no = instruction::form(rows, w, true, b, count);
-    if no != 0 {
+    if no != number::PASSED {
         return Exit::No(no);
     }
     let op = word::opcode(w);

@@ -1,5 +1,6 @@
 // Words of tables and code, made of their parts. A row of a type table or block table is nine words: a field count or a block's length,
 // then the type word of each field or register, which is Any where nothing is said.
+use model::limit;
 
 // ---- type words: kind in bits 31 to 24, record type in 23 to 16, dependency in 15 to 8
 
@@ -28,12 +29,16 @@ fn put(table: &mut [u32], at: usize, word: u32) {
 
 // The row's first word.
 pub fn row(table: &mut [u32], number: u8, count: u32) {
-    put(table, number as usize * 9, count);
+    put(table, number as usize * limit::ROW_WORDS, count);
 }
 
 // The type word of a field or register.
 pub fn typed(table: &mut [u32], number: u8, slot: u8, word: u32) {
-    put(table, number as usize * 9 + 1 + slot as usize, word);
+    put(
+        table,
+        number as usize * limit::ROW_WORDS + 1 + slot as usize,
+        word,
+    );
 }
 
 // ---- instructions: opcode in bits 31 to 24, a in 23 to 20, b in 19 to 16, c in 15 to 0

@@ -6,9 +6,7 @@ mod routines;
 
 use model::RunAnswer;
 use model::Verdict;
-
-// The number of a pause.
-const PAUSED: u32 = 40;
+use model::number;
 
 // Orders of eight turns.
 const RANKING_FIRST: u32 = 240;
@@ -140,7 +138,7 @@ fn ranked(memory: &mut [u32], block: u32, registers: [u32; 8], budget: u64) -> R
 
 // A turn of one block; a routine that has halted has none.
 fn turn(correction: bool, waiting: RunAnswer, memory: &mut [u32]) -> RunAnswer {
-    if waiting.number != PAUSED {
+    if waiting.number != number::PAUSED {
         return waiting;
     }
     let block = waiting.block;

@@ -3,28 +3,29 @@ use mathlib.Core.Path.{_≡_, refl, sym, ap, _∙_}
 use mathlib.Core.Bool.{Bool, true, false, not}
 use mathlib.Core.List.{List, [], _∷_}
 use Prim.Native.Nat.{ℕ, zero, suc, _+_, _-_, _*_, _%_, _<_, _≤_}
-use native.Mathlib.Numerals.{add-one}
+use native.Mathlib.Numerals.{add-one, unary-clauses}
 use native.Mathlib.Omega.{arith}
 use lib.Dec.{ltb, eqb}
 use lib.ListN.{length, getD, set, take, drop, drop-of-length-le, length-drop}
 use lib.Seq.{drop-cons, take-all}
 use borrow.Author.Tests.{lt-ltb, le-ltb, eq-eqb, ne-eqb}
 use Rattle.model.specs.declared.Reference.the-variants.{To, Nothing}
-use Rattle.model.specs.Question.{_and_, _or_, Question, questionOf, Refusal, ask}
-use Rattle.model.specs.Word.{kindOf, recordOf, opcodeOf, aOf, bOf, cOf}
+use Rattle.model.specs.Question.{_and_, _or_, provided, Question, questionOf, Refusal}
+use Rattle.model.specs.Word.{kindOf, recordOf, opcodeOf, aOf, bOf, cOf, withKind}
 use Rattle.model.specs.Types.{typeOf}
 use Rattle.model.specs.Table.{Tables, tablesOf, headOf, wordsOf, rowOf}
 use Rattle.model.specs.Machine.{constant, copy, move, load, store}
-use Rattle.model.specs.Reading.{birthplace, rowFits, Reading, laidAt, upFrom, born, putRegister, fresh, withKind, steady, moves, movedWord, noBase}
-use Rattle.model.specs.Reading.{viewed, look, loaded, stored}
+use Rattle.model.specs.Reading.{birthplace, rowFits, Reading, laidAt, upFrom, born, putRegister, fresh, moves, movedWord, noBase, viewed, look}
+use Rattle.model.specs.Reading.{loaded, stored, powerOfTwo}
 use Rattle.model.specs.Check.{valueIn, withReference, referenceIn, mayTouch, onRecord, readPlain}
 use Rattle.model.proofs.Logic.{byEqual, byLess}
-use Rattle.model.proofs.Lists.{map-set, getD-past, upFrom-at, length-upFrom}
+use Rattle.model.proofs.Lists.{map-set, getD-past}
 use Rattle.table.proofs.Laws.{row-length, words-length, head-at, tables-size, tables-words}
 use Rattle.fits.specs.Numbers.{frameOf, valuesOf}
 use Rattle.fits.proofs.Numbers.{frames-set, byKind}
 use Rattle.straight.specs.declared.Progress.{Progress}
-use Rattle.straight.specs.State.{viewOf, viewsOf, reading, Formed, numbered, plainOf, loadAsk, storeAsk, touched}
+use Rattle.instruction.specs.Form.{plainOf, Inside}
+use Rattle.straight.specs.State.{viewOf, viewsOf, reading, numbered, loadAsk, storeAsk, touched}
 
 -- ---- names and type words
 
@@ -40,24 +41,9 @@ laid-end l j xs k h = rw (drop-of-length-le xs h)
 pub laid-start : (l : List ℕ) (j j′ : ℕ) (xs : List ℕ) → j′ ≡ j → laidAt l j xs ≡ laidAt l j′ (drop 0 xs)
 laid-start l j j′ xs e = rw e
 
-laid-behind : (y : ℕ) (l : List ℕ) (i : ℕ) (xs : List ℕ) → laidAt (y ∷ l) (suc i) xs ≡ y ∷ laidAt l i xs
-unfolding laidAt
-laid-behind y l i [] = refl
-laid-behind y l i (x ∷ xs) = laid-behind y (set l i x) (suc i) xs
-
--- a list as long as what is laid over it is gone
-laid-whole : (l xs : List ℕ) → length l ≡ length xs → laidAt l 0 xs ≡ xs
-unfolding laidAt
-laid-whole [] [] e = refl
-laid-whole (y ∷ l) [] e = absurd (omega arith)
-laid-whole [] (x ∷ xs) e = absurd (omega arith)
-laid-whole (y ∷ l) (x ∷ xs) e = laid-behind x l 0 xs ∙ ap {B = List ℕ} (λ (r : List ℕ). x ∷ r) (laid-whole l xs (omega arith))
-
-pub names-all : (l : List ℕ) (first : ℕ) → length l ≡ 8 → laidAt l 0 (upFrom first 8) ≡ upFrom first 8
-names-all l first e = laid-whole l (upFrom first 8) (e ∙ sym (length-upFrom first 8))
-
-pub name-at : (first k : ℕ) → k < 8 → first + k ≡ getD (upFrom first 8) k 0
-name-at first k h = sym (upFrom-at first 8 k h)
+pub names-are : (f : ℕ) → f ∷ (f + 1) ∷ (f + 2) ∷ (f + 3) ∷ (f + 4) ∷ (f + 5) ∷ (f + 6) ∷ (f + 7) ∷ [] ≡ upFrom f 8
+unfolding upFrom
+names-are f = simp unary-clauses
 
 -- ---- sizes
 
@@ -91,21 +77,21 @@ module _ (registers words frames constants views fields : List ℕ) (since base 
 -- ---- opcode 7
 
 module _ (n c : ℕ) where
-  pub divides-one : n ≡ 1 → true ≡ steady n and eqb (c % n) 0
+  pub divides-one : n ≡ 1 → true ≡ powerOfTwo n and eqb (c % n) 0
   unfolding _and_ _or_
   divides-one e = let z : c % 1 ≡ 0 = omega arith in rw (e, z)
 
-  pub divides-by : (k : ℕ) → steady k ≡ true → n ≡ k → eqb (c % k) 0 ≡ steady n and eqb (c % n) 0
+  pub divides-by : (k : ℕ) → powerOfTwo k ≡ true → n ≡ k → eqb (c % k) 0 ≡ powerOfTwo n and eqb (c % n) 0
   unfolding _and_
   divides-by k s e = rw (e, s)
 
-  pub divides-other : (n ≡ 1 → ⊥) → (n ≡ 2 → ⊥) → (n ≡ 4 → ⊥) → (n ≡ 8 → ⊥) → false ≡ steady n and eqb (c % n) 0
+  pub divides-other : (n ≡ 1 → ⊥) → (n ≡ 2 → ⊥) → (n ≡ 4 → ⊥) → (n ≡ 8 → ⊥) → false ≡ powerOfTwo n and eqb (c % n) 0
   unfolding _and_ _or_
   divides-other n1 n2 n4 n8 = rw (ne-eqb n 1 n1, ne-eqb n 2 n2, ne-eqb n 4 n4, ne-eqb n 8 n8)
 
 module _ (types tags : List ℕ) (w c : ℕ) where
   type-is-span : (k : ℕ) → kindOf w ≡ k + 6
-      → moves (tablesOf types tags) (typeOf w) c ≡ steady (headOf types (recordOf w)) and eqb (c % headOf types (recordOf w)) 0
+      → moves (tablesOf types tags) (typeOf w) c ≡ powerOfTwo (headOf types (recordOf w)) and eqb (c % headOf types (recordOf w)) 0
   unfolding moves typeOf tablesOf
   type-is-span k e = let z : kindOf w ≡ suc (suc (suc (suc (suc (suc k))))) = omega arith in rw z
 
@@ -115,14 +101,14 @@ module _ (types tags : List ℕ) (w c : ℕ) where
       byKind (kindOf w) (λ e. rw e) (λ e. rw e) (λ e. rw e) (λ e. rw e) (λ e. rw e) (λ e. rw e) (λ k e. absurd (omega arith))
 
   module _ (h : 6 ≤ kindOf w) (t n : ℕ) (et : t ≡ recordOf w) (en : n ≡ headOf types t) where
-    spans : moves (tablesOf types tags) (typeOf w) c ≡ steady n and eqb (c % n) 0
+    spans : moves (tablesOf types tags) (typeOf w) c ≡ powerOfTwo n and eqb (c % n) 0
     spans = type-is-span (kindOf w - 6) (omega arith) ∙ rw (en, et)
 
-    pub moved-not : steady n and eqb (c % n) 0 ≡ false → 0 ≡ movedWord (tablesOf types tags) w c
+    pub moved-not : powerOfTwo n and eqb (c % n) 0 ≡ false → 0 ≡ movedWord (tablesOf types tags) w c
     unfolding movedWord
     moved-not q = rw (spans, q)
 
-    pub moved-on : steady n and eqb (c % n) 0 ≡ true → withKind 6 w ≡ movedWord (tablesOf types tags) w c
+    pub moved-on : powerOfTwo n and eqb (c % n) 0 ≡ true → withKind 6 w ≡ movedWord (tablesOf types tags) w c
     unfolding movedWord
     moved-on q = rw (spans, q)
 
@@ -211,20 +197,20 @@ number-of e = ap (λ (p : Progress). p .number) e
 module _ (𝒯 : Tables) (place : Question → Refusal) (a v c : ℕ) (st : Reading) where
   pub load-own : mayTouch 𝒯 st v ≡ true → (z : ℕ) → z ≡ 0
       → numbered place z (putRegister st a (getD (st .fields) c 0)) ≡ loadAsk 𝒯 place a v c st
-  unfolding numbered loadAsk ask loaded
+  unfolding numbered loadAsk provided loaded
   load-own m z ez = rw (ez, m)
 
   pub load-other : mayTouch 𝒯 st v ≡ false → (z : ℕ) → z ≡ 12 → (st′ : Reading) → numbered place z st′ ≡ loadAsk 𝒯 place a v c st
-  unfolding numbered questionOf loadAsk ask
+  unfolding numbered questionOf loadAsk provided
   load-other m z ez st′ = rw (ez, m)
 
 module _ (𝒯 : Tables) (place : Question → Refusal) (g v t c x : ℕ) (st : Reading) where
   pub store-other : mayTouch 𝒯 st v ≡ false → (z : ℕ) → z ≡ 12 → (st′ : Reading) → numbered place z st′ ≡ storeAsk 𝒯 place g v t c x st
-  unfolding numbered questionOf storeAsk ask
+  unfolding numbered questionOf storeAsk provided
   store-other m z ez st′ = rw (ez, m)
 
   store-own : mayTouch 𝒯 st v ≡ true → (st′ : Reading) → st′ ≡ stored 𝒯 st g v t c x → numbered place 0 st′ ≡ storeAsk 𝒯 place g v t c x st
-  unfolding numbered storeAsk ask
+  unfolding numbered storeAsk provided
   store-own m st′ es = rw (m, es)
 
 module _ (types tags : List ℕ) (place : Question → Refusal) (registers words frames constants views fields : List ℕ) (since base g v t c x n : ℕ)
@@ -256,7 +242,7 @@ module _ (types tags : List ℕ) (place : Question → Refusal) (registers words
 
 module _ (𝒯 : Tables) (place : Question → Refusal) (g : ℕ) (loads : Bool) (a v t c : ℕ) (st : Reading) (n : ℕ) (en : n ≡ 𝒯 .size t) where
   pub touch-offset : n ≤ c → (z : ℕ) → z ≡ 11 → (st′ : Reading) → numbered place z st′ ≡ touched 𝒯 place g loads a v t c st
-  unfolding numbered questionOf touched ask
+  unfolding numbered questionOf touched provided
   touch-offset q z ez st′ = rw (ez, ← en, le-ltb c n q)
 
   module _ (q : c < n) (st′ : Reading) (es : st′ ≡ look 𝒯 st g v t) (eb : st′ .base ≡ st .base) where
@@ -264,14 +250,14 @@ module _ (𝒯 : Tables) (place : Question → Refusal) (g : ℕ) (loads : Bool)
     as-before = ap (λ (b : ℕ). not (ltb b noBase) or eqb b v) eb
 
     pub touch-load : loads ≡ true → loadAsk 𝒯 place a v c st′ ≡ touched 𝒯 place g loads a v t c st
-    unfolding touched loadAsk ask
+    unfolding touched loadAsk provided
     touch-load e = rw (as-before, ← en, lt-ltb c n q, e, ← es)
 
     pub touch-store : loads ≡ false → storeAsk 𝒯 place g v t c (valueIn st a) st′ ≡ touched 𝒯 place g loads a v t c st
-    unfolding touched storeAsk ask
+    unfolding touched storeAsk provided
     touch-store e = rw (as-before, ← en, lt-ltb c n q, e, ← es)
 
-module _ {w a b c : ℕ} (p : Parts w a b c) (f : Formed 8 w) (𝒯 : Tables) (place : Question → Refusal) (g : ℕ) (st : Reading) where
+module _ {w a b c : ℕ} (p : Parts w a b c) (f : Inside 8 w) (𝒯 : Tables) (place : Question → Refusal) (g : ℕ) (st : Reading) where
   pub access-nothing : Nothing ≡ referenceIn 𝒯 st b → (z : ℕ) → z ≡ 10 → (st′ : Reading) → numbered place z st′ ≡ readPlain 𝒯 place g (plainOf w) st
   unfolding numbered questionOf readPlain onRecord withReference
   access-nothing er z ez st′ =

@@ -1,18 +1,17 @@
--- The state of a reading as the arrays of the code hold it, outcomes as numbers, and the instruction that a well-formed word is.
-use mathlib.Core.List.{List, [], _∷_, map}
+-- The state of a reading as the arrays of the code hold it, and outcomes as numbers.
+use mathlib.Core.List.{List, map}
 use mathlib.Core.Path.{_≡_}
-use Prim.Native.Nat.{ℕ, zero, suc, _-_, _%_, _≤_, _<_}
-use mathlib.Core.Bool.{Bool}
+use Prim.Native.Nat.{ℕ, zero, suc, _%_, _≤_}
+use mathlib.Core.Bool.{Bool, true}
 use lib.Dec.{ltb}
-use lib.ListN.{length, getD}
+use lib.ListN.{length}
 use denote.Ref.{now}
-use Rattle.model.specs.Question.{pick, Question, questionOf, q7, q8, q11, q12, Refusal, Outcome, ok, refused, ask}
-use Rattle.model.specs.Word.{opcodeOf, aOf, bOf, cOf}
+use Rattle.model.specs.Question.{pick, Question, questionOf, isAnswer, q11, q12, Refusal, Outcome, ok, refused, ask}
 use Rattle.model.specs.Table.{Tables, headOf}
-use Rattle.model.specs.Machine.{Plain, constant, copy, add, subtract, multiply, divide, move, load, store, Instruction, plain, end, malformed}
 use Rattle.model.specs.Reading.{Reading, look, loaded, stored}
-use Rattle.model.specs.Check.{valueIn, mayTouch, readPlain}
+use Rattle.model.specs.Check.{valueIn, mayTouch}
 use Rattle.fits.specs.Numbers.{valuesOf, Lent}
+use Rattle.straight.specs.declared.Progress.{Progress}
 
 -- A view is the birthplace of the fields seen. There are 32 birthplaces.
 abbrev pub viewOf : ℕ → ℕ
@@ -43,19 +42,10 @@ after registers words frames constants views fields since base =
     reading (now (registers .exit)) (now (words .exit)) (now (frames .exit)) (now (constants .exit)) (now (views .exit)) (now (fields .exit))
     since base
 
--- a reading with no refusal so far, a place for eight fields, and a table of whole rows whose sizes are at most 8
-pub record Underway (number : ℕ) (types fields : List ℕ) : Type 0 where
-  pub goes-on : number ≡ 0
-  pub eight : length fields ≡ 8
+-- a type table of whole rows, whose sizes are at most 8
+pub record Sizes (types : List ℕ) : Type 0 where
   pub whole : length types % 9 ≡ 0
   pub small : (t : ℕ) → headOf types t ≤ 8
-
--- a word with an opcode from least to 9 and registers that exist
-pub record Formed (least word : ℕ) : Type 0 where
-  pub from : least ≤ opcodeOf word
-  pub to : opcodeOf word ≤ 9
-  pub a-exists : aOf word < 8
-  pub b-exists : bOf word < 8
 
 -- ---- outcomes
 
@@ -64,23 +54,14 @@ unfoldable pub numbered : {A : Type 0} → (Question → Refusal) → ℕ → A 
 numbered place zero a = ok a
 numbered place (suc n) a = refused (place (questionOf (suc n)))
 
--- ---- instructions
-
--- a well-formed word with opcode 1 to 9
-unfoldable pub plainOf : ℕ → Plain
-plainOf w =
-    let a = aOf w in
-    let b = bOf w in
-    let c = cOf w in
-    getD
-    (constant a c ∷ copy a b ∷ add a b c ∷ subtract a b c ∷ multiply a b c ∷ divide a b c ∷ move a b c ∷ load a b c ∷ store a b c ∷ [])
-    (opcodeOf w - 1) (constant a c)
-
--- Q7 to Q12 of an instruction before its block's end, whose values are born at g
-unfoldable pub earlyAsk : Tables → (Question → Refusal) → ℕ → Instruction → Reading → Outcome Reading
-earlyAsk 𝒯 place g malformed st = refused (place q7)
-earlyAsk 𝒯 place g (plain x) st = readPlain 𝒯 place g x st
-earlyAsk 𝒯 place g (end e) st = refused (place q8)
+-- Questions asked of the reading that the lent arrays make at entry, and how far it was: the number of the first no, or the reading
+-- that the arrays make at exit.
+pub record Reads (registers words frames constants views fields : Lent) (s r : Progress)
+    (asks : (Question → Refusal) → Reading → Outcome Reading) : Type 0 where
+  pub outcome : (place : Question → Refusal)
+      → numbered place (r .number) (after registers words frames constants views fields (r .since) (r .base))
+      ≡ asks place (before registers words frames constants views fields (s .since) (s .base))
+  pub answers : isAnswer (r .number) ≡ true
 
 -- Q12 of a load and of a store through the value v, whose record's fields are at hand, and the reading after it
 unfoldable pub loadAsk : Tables → (Question → Refusal) → ℕ → ℕ → ℕ → Reading → Outcome Reading

@@ -8,23 +8,19 @@ ghost use mathlib.Core.List.{List};
 ghost use Prim.Native.Nat.{ℕ, _+_, _*_, _%_, _≤_, _<_};
 ghost use lib.ListN.{length, set};
 ghost use lib.Dec.{eqb, ltb};
-ghost use mathlib.Core.Bool.{true, not};
+ghost use mathlib.Core.Bool.{true, false, not};
 ghost use Rattle.model.specs.Question.{_and_, _or_, Question, Refusal, isAnswer};
-ghost use Rattle.model.specs.Table.{tablesOf, headOf};
+ghost use Rattle.model.specs.Table.{tablesOf, headOf, Routine};
 ghost use Rattle.model.specs.Machine.{decode};
-ghost use Rattle.model.specs.Reading.{laidAt, upFrom, steady, movedWord, look, rowFits};
-ghost use Rattle.model.specs.Check.{readPlain};
+ghost use Rattle.model.specs.Reading.{laidAt, upFrom, powerOfTwo, movedWord, look, rowFits};
+ghost use Rattle.model.specs.Check.{readPlain, readInstruction};
 ghost use Rattle.instruction.specs.Rows.{opcodeRows};
+ghost use Rattle.instruction.specs.Form.{plainOf, Inside};
 ghost use Rattle.fits.specs.Numbers.{tablesIn, valuesIn};
-ghost use Rattle.straight.specs.State.{reading, before, after, Underway, Formed, numbered, plainOf, loadAsk, storeAsk, touched, earlyAsk};
+ghost use Rattle.straight.specs.State.{reading, Sizes, numbered, Reads, loadAsk, storeAsk, touched};
 use model::Reference;
-
-// Numbers of the questions asked of code.
-const NO_REFERENCE: u32 = 10;
-
-const OFFSET: u32 = 11;
-
-const OTHER_RECORD: u32 = 12;
+use model::limit;
+use model::number;
 
 // No record is open.
 pub const NO_BASE: u32 = 256;
@@ -55,8 +51,8 @@ fn refused(number: u32, s: Progress) -> Progress
 
 // ---- names and type words
 
-// A row of type words, from the name first on.
-pub fn lay(words: &mut [u32; 256], row: &[u32], first: usize)
+// A row of type words, copied to the names from first on.
+pub fn copy_row(words: &mut [u32; 256], row: &[u32], first: usize)
     requires { ⌜ first + length (now row) ≤ 256 ⌝ }
     ensures { λ _. ⌜ now (words .exit) ≡ laidAt (now (words .entry)) first (now (row .entry)) ⌝ }
 {
@@ -68,15 +64,12 @@ pub fn lay(words: &mut [u32; 256], row: &[u32], first: usize)
 }
 
 // The names of eight fields, from first on.
-fn name_all(fields: &mut [u8; 8], first: u32)
-    requires { ⌜ (first ≤ 248) × (length (now fields) ≡ 8) ⌝ }
-    ensures { λ _. ⌜ now (fields .exit) ≡ upFrom first 8 ⌝ }
+fn names(first: u32) -> [u8; 8]
+    requires { ⌜ first ≤ 248 ⌝ }
+    ensures { λ r. ⌜ r ≡ upFrom first 8 ⌝ }
 {
-    let mut k: usize = 0;
-    while k < 8 {
-        fields[k] = (first + (k as u32)) as u8;
-        k += 1;
-    }
+    let f = first as u8;
+    [f, f + 1, f + 2, f + 3, f + 4, f + 5, f + 6, f + 7]
 }
 
 // The size of a record type, 0 past the table.
@@ -84,7 +77,7 @@ fn size(types: &[u32], t: u32) -> u32
     requires { ⌜ length (now types) % 9 ≡ 0 ⌝ }
     ensures { λ r. ⌜ (r ≡ headOf (now (types .entry)) t) × (0 < r → t * 9 + 9 ≤ length (now (types .entry))) ⌝ }
 {
-    let at = (t as usize) * table::ROW_WORDS;
+    let at = (t as usize) * limit::ROW_WORDS;
     if types.len() <= at {
         return 0;
     }
@@ -119,7 +112,7 @@ fn fresh(
 
 // Whether n is 1, 2, 4 or 8 and divides c.
 fn divides(n: u32, c: u32) -> bool
-    ensures { λ r. ⌜ r ≡ (steady n and eqb (c % n) 0) ⌝ }
+    ensures { λ r. ⌜ r ≡ (powerOfTwo n and eqb (c % n) 0) ⌝ }
 {
     if n == 1 {
         return true;
@@ -173,7 +166,7 @@ fn look(
     s: Progress,
     x: Transfer,
 )
-    requires { ⌜ (x .g < 32) × (x .t * 9 + 9 ≤ length (now types)) × (length (now fields) ≡ 8) ⌝ }
+    requires { ⌜ (x .g < 32) × (x .t * 9 + 9 ≤ length (now types)) ⌝ }
     ensures { λ _. ⌜ ((registers tags : List ℕ)
         → reading registers (now (words .exit)) (now (frames .exit)) (now (constants .exit)) (now (views .exit)) (now (fields .exit))
         (s .since) (s .base)
@@ -186,18 +179,18 @@ fn look(
         return;
     }
     let v = x.v as usize;
-    let seen = fits::wide(views[v]) % 32;
+    let seen = word::wide(views[v]) % 32;
     if s.since < seen {
-        name_all(fields, 8 * seen);
+        *fields = names(8 * seen);
         return;
     }
     let own = table::row(types, x.t as usize);
     let g = x.g;
-    lay(words, &own[1..], 8 * g);
+    copy_row(words, &own[1..], 8 * g);
     frames[g] = g as u8;
     constants[g] = 0;
     views[v] = g as u8;
-    name_all(fields, 8 * (g as u32));
+    *fields = names(8 * (g as u32));
 }
 
 // Q12: no record is open, or v opened it.
@@ -225,7 +218,7 @@ fn load(registers: &mut [u8; 8], fields: &[u8; 8], s: Progress, x: Transfer) -> 
         registers[a] = fields[c];
         return s;
     }
-    refused(OTHER_RECORD, s)
+    refused(number::OTHER_RECORD, s)
 }
 
 // Field c of the record at hand is the value x: whether each of its n fields fits its type word of the row.
@@ -281,7 +274,7 @@ fn store(
         × (isAnswer (r .number) ≡ true) ⌝ }
 {
     if !may_touch(s.base, x.v) {
-        return refused(OTHER_RECORD, s);
+        return refused(number::OTHER_RECORD, s);
     }
     let own = table::row(types, x.t as usize);
     let born = x.g as u32;
@@ -297,7 +290,7 @@ fn store(
         &own[1..],
     ) {
         return Progress {
-            number: 0,
+            number: number::PASSED,
             since: born,
             base: NO_BASE,
         };
@@ -305,7 +298,7 @@ fn store(
     let since = s.since;
     let base = x.v as u32;
     Progress {
-        number: 0,
+        number: number::PASSED,
         since: since,
         base: base,
     }
@@ -325,16 +318,13 @@ fn touch(
     s: Progress,
     x: Transfer,
 ) -> Progress
-    requires { ⌜ (x .g < 32) × (x .a < 8) × Underway (s .number) (now types) (now fields) ⌝ }
-    ensures { λ r. ⌜ ((place : Question → Refusal)
-        → numbered place (r .number) (after registers words frames constants views fields (r .since) (r .base))
-        ≡ touched (tablesIn (now (types .entry)) tags) place (x .g) (x .loads) (x .a) (x .v) (x .t) (x .c)
-        (before registers words frames constants views fields (s .since) (s .base)))
-        × (isAnswer (r .number) ≡ true) ⌝ }
+    requires { ⌜ (x .g < 32) × (x .a < 8) × (s .number ≡ 0) × Sizes (now types) ⌝ }
+    ensures { λ r. ⌜ Reads registers words frames constants views fields s r
+        (λ place. touched (tablesIn (now (types .entry)) tags) place (x .g) (x .loads) (x .a) (x .v) (x .t) (x .c)) ⌝ }
 {
     let n = size(types, x.t);
     if n <= x.c {
-        return refused(OFFSET, s);
+        return refused(number::OFFSET, s);
     }
     look(types, words, frames, constants, views, fields, s, x);
     if x.loads {
@@ -368,12 +358,9 @@ fn access(
     fields: &mut [u8; 8],
     i: Fetched,
 ) -> Progress
-    requires { ⌜ Formed 8 (i .word) × (i .g < 32) × Underway (i .s .number) (now types) (now fields) ⌝ }
-    ensures { λ r. ⌜ ((place : Question → Refusal)
-        → numbered place (r .number) (after registers words frames constants views fields (r .since) (r .base))
-        ≡ readPlain (tablesIn (now (types .entry)) tags) place (i .g) (plainOf (i .word))
-        (before registers words frames constants views fields (i .s .since) (i .s .base)))
-        × (isAnswer (r .number) ≡ true) ⌝ }
+    requires { ⌜ Inside 8 (i .word) × (i .g < 32) × (i .s .number ≡ 0) × Sizes (now types) ⌝ }
+    ensures { λ r. ⌜ Reads registers words frames constants views fields (i .s) r
+        (λ place. readPlain (tablesIn (now (types .entry)) tags) place (i .g) (plainOf (i .word))) ⌝ }
 {
     let s = i.s;
     let word = i.word;
@@ -382,7 +369,7 @@ fn access(
     let c = word::c(word);
     let v = registers[b];
     let Reference::To(t) = fits::reference(tags, words, frames, constants, 0, 0, v) else {
-        return refused(NO_REFERENCE, s);
+        return refused(number::REFERENCE, s);
     };
     let x = Transfer {
         loads: word::opcode(word) == instruction::LOAD,
@@ -420,12 +407,9 @@ fn step(
     fields: &mut [u8; 8],
     i: Fetched,
 ) -> Progress
-    requires { ⌜ Formed 1 (i .word) × (i .g < 32) × Underway (i .s .number) (now types) (now fields) ⌝ }
-    ensures { λ r. ⌜ ((place : Question → Refusal)
-        → numbered place (r .number) (after registers words frames constants views fields (r .since) (r .base))
-        ≡ readPlain (tablesIn (now (types .entry)) tags) place (i .g) (plainOf (i .word))
-        (before registers words frames constants views fields (i .s .since) (i .s .base)))
-        × (isAnswer (r .number) ≡ true) ⌝ }
+    requires { ⌜ Inside 1 (i .word) × (i .g < 32) × (i .s .number ≡ 0) × Sizes (now types) ⌝ }
+    ensures { λ r. ⌜ Reads registers words frames constants views fields (i .s) r
+        (λ place. readPlain (tablesIn (now (types .entry)) tags) place (i .g) (plainOf (i .word))) ⌝ }
 {
     let word = i.word;
     let op = word::opcode(word);
@@ -459,15 +443,15 @@ fn step(
         fresh(registers, words, frames, constants, a, g, 0, 0, 0);
         return s;
     }
-    let v = fits::index(registers[b]);
+    let v = word::index(registers[b]);
     let w = moved_word(types, words[v], c);
     let frame = frames[v / 8];
     fresh(registers, words, frames, constants, a, g, w, frame, 0);
     s
 }
 
-// Q7 to Q12 of an instruction before its block's end. It is not asked Q9, so it is of no account which block it is in.
-pub fn early(
+// Q7 to Q12 of an instruction inside a block. It is not asked Q9, so it is of no account which block it is in.
+pub fn read_inside(
     rows: &[u32; 13],
     types: &[u32],
     tags: &[u32],
@@ -479,16 +463,13 @@ pub fn early(
     fields: &mut [u8; 8],
     i: Fetched,
 ) -> Progress
-    requires { ⌜ (now rows ≡ opcodeRows) × (i .g < 32) × Underway (i .s .number) (now types) (now fields) ⌝ }
-    ensures { λ r. ⌜ ((place : Question → Refusal)
-        → numbered place (r .number) (after registers words frames constants views fields (r .since) (r .base))
-        ≡ earlyAsk (tablesIn (now (types .entry)) tags) place (i .g) (decode (i .word))
-        (before registers words frames constants views fields (i .s .since) (i .s .base)))
-        × (isAnswer (r .number) ≡ true) ⌝ }
+    requires { ⌜ (now rows ≡ opcodeRows) × (i .g < 32) × (i .s .number ≡ 0) × Sizes (now types) ⌝ }
+    ensures { λ r. ⌜ ((P : Routine) (b : ℕ) → Reads registers words frames constants views fields (i .s) r
+        (λ place. readInstruction (tablesIn (now (types .entry)) tags) P place b (i .g) false (decode (i .word)))) ⌝ }
 {
     let word = i.word;
     let no = instruction::form(rows, word, false, 0, 0);
-    if no != 0 {
+    if no != number::PASSED {
         let s = i.s;
         return refused(no, s);
     }

@@ -11,15 +11,14 @@ use lib.Dec.{ltb, leb, eqb}
 use lib.ListN.{length, drop, getD, set, length-set}
 use lib.Seq.{getD-set-same, getD-set-other}
 use borrow.Author.Tests.{lt-ltb, le-ltb, le-leb, lt-leb, eq-eqb, ne-eqb}
-use Rattle.model.specs.Question.{_and_, _or_, pick, ask, every, firstNo, q1, q2, q3, q4, q5, q6, refusal, Outcome, ok, refused, passed, refusing, verdictOf}
+use Rattle.model.specs.Question.{_and_, _or_, pick, every, q2, q3, q4, q5, q6, refusal, Outcome, ok, refused, passed, refusing, verdictOf, provided}
 use Rattle.model.specs.Word.{kindOf, recordOf, firstOf, secondOf}
-use Rattle.model.specs.Table.{wholeRows, typeLengthsAsk, codeLengthsAsk}
-use Rattle.model.specs.Table.{wellMade, headOf, wordsOf, rows, tablesOf, countAsk, fieldWell, fieldsAsk, tagAsk, typesAsk}
-use Rattle.model.specs.Table.{startOf, routineOf, blocksAsk, lengthsAsk, annotationWell, annotationAsk, annotationsAsk}
+use Rattle.model.specs.Table.{wholeRows, wellMade, headOf, wordsOf, rows, tablesOf, countAsk, fieldWell, fieldsAsk, tagAsk, typesAsk, startOf}
+use Rattle.model.specs.Table.{blocksAsk, lengthsAsk, annotationWell, annotationAsk, typesQuestions}
 use Rattle.table.specs.Row.{placeWell}
 use Rattle.model.proofs.Logic.{pick-true}
 use Rattle.table.proofs.Laws.{recordPart, dependencyPart, lengthWell, start-none, uses-span}
-use Rattle.table.proofs.Questions.{left, inOrder, ComesTo}
+use Rattle.table.proofs.Questions.{left, ComesTo}
 
 -- ---- Q1
 
@@ -35,36 +34,6 @@ module _ (most n : ℕ) where
   pub rows-bounded : n % 9 ≡ 0 → 9 ≤ n → leb n (9 * most) ≡ wholeRows most n
   unfolding _and_
   rows-bounded e h = rw (e, le-leb 9 n h)
-
-module _ (types tags : ℕ) where
-  pub types-broken : wholeRows 64 types ≡ false → refusing (refusal q1 0 0) ≡ verdictOf (typeLengthsAsk types tags)
-  unfolding verdictOf typeLengthsAsk ask
-  types-broken h = rw h
-
-  pub tags-broken : wholeRows 64 types ≡ true → 64 < tags → refusing (refusal q1 1 0) ≡ verdictOf (typeLengthsAsk types tags)
-  unfolding verdictOf typeLengthsAsk ask
-  tags-broken h l = rw (h, lt-leb tags 64 l)
-
-  pub type-lengths-pass : wholeRows 64 types ≡ true → tags ≤ 64 → passed ≡ verdictOf (typeLengthsAsk types tags)
-  unfolding verdictOf typeLengthsAsk ask
-  type-lengths-pass h l = rw (h, le-leb tags 64 l)
-
-module _ (blocks code : ℕ) where
-  pub blocks-broken : wholeRows 256 blocks ≡ false → refusing (refusal q1 2 0) ≡ verdictOf (codeLengthsAsk blocks code)
-  unfolding verdictOf codeLengthsAsk ask
-  blocks-broken h = rw h
-
-  pub code-none : wholeRows 256 blocks ≡ true → code < 1 → refusing (refusal q1 3 0) ≡ verdictOf (codeLengthsAsk blocks code)
-  unfolding verdictOf codeLengthsAsk ask _and_
-  code-none h l = rw (h, lt-leb 1 code l)
-
-  pub code-long : wholeRows 256 blocks ≡ true → 1 ≤ code → 8192 < code → refusing (refusal q1 3 0) ≡ verdictOf (codeLengthsAsk blocks code)
-  unfolding verdictOf codeLengthsAsk ask _and_
-  code-long h l m = rw (h, le-leb 1 code l, lt-leb code 8192 m)
-
-  pub code-lengths-pass : wholeRows 256 blocks ≡ true → 1 ≤ code → code ≤ 8192 → passed ≡ verdictOf (codeLengthsAsk blocks code)
-  unfolding verdictOf codeLengthsAsk ask _and_
-  code-lengths-pass h l m = rw (h, le-leb 1 code l, le-leb code 8192 m)
 
 -- ---- type words
 
@@ -138,15 +107,15 @@ place-is count n words f w e = rw e
 
 module _ (types tags : List ℕ) (t n : ℕ) (e : n ≡ headOf types t) where
   pub count-yes : 1 ≤ n → n ≤ 8 → countAsk (tablesOf types tags) t ≡ ok tt
-  unfolding countAsk tablesOf ask _and_
+  unfolding countAsk tablesOf provided _and_
   count-yes l m = rw (← e, le-leb 1 n l, le-leb n 8 m)
 
   pub count-none : n < 1 → countAsk (tablesOf types tags) t ≡ refused (refusal q2 t 0)
-  unfolding countAsk tablesOf ask _and_
+  unfolding countAsk tablesOf provided _and_
   count-none l = rw (← e, lt-leb 1 n l)
 
   pub count-many : 1 ≤ n → 8 < n → countAsk (tablesOf types tags) t ≡ refused (refusal q2 t 0)
-  unfolding countAsk tablesOf ask _and_
+  unfolding countAsk tablesOf provided _and_
   count-many l m = rw (← e, le-leb 1 n l, lt-leb n 8 m)
 
   fields-are : every 8 0 (placeWell (rows types) n (wordsOf types t)) ≡ every 8 0 (fieldWell (tablesOf types tags) t)
@@ -154,20 +123,20 @@ module _ (types tags : List ℕ) (t n : ℕ) (e : n ≡ headOf types t) where
   fields-are = rw e
 
   pub fields-yes : every 8 0 (placeWell (rows types) n (wordsOf types t)) ≡ true → fieldsAsk (tablesOf types tags) t ≡ ok tt
-  unfolding fieldsAsk ask
+  unfolding fieldsAsk provided
   fields-yes h = rw (← fields-are, h)
 
   pub fields-no : every 8 0 (placeWell (rows types) n (wordsOf types t)) ≡ false → fieldsAsk (tablesOf types tags) t ≡ refused (refusal q3 t 0)
-  unfolding fieldsAsk ask
+  unfolding fieldsAsk provided
   fields-no h = rw (← fields-are, h)
 
 module _ (types tags : List ℕ) (k : ℕ) where
   pub tag-yes : getD tags k 0 < rows types → tagAsk (tablesOf types tags) k ≡ ok tt
-  unfolding tagAsk tablesOf ask
+  unfolding tagAsk tablesOf provided
   tag-yes h = rw (lt-ltb (getD tags k 0) (rows types) h)
 
   pub tag-no : rows types ≤ getD tags k 0 → tagAsk (tablesOf types tags) k ≡ refused (refusal q4 k 0)
-  unfolding tagAsk tablesOf ask
+  unfolding tagAsk tablesOf provided
   tag-no h = rw (le-ltb (getD tags k 0) (rows types) h)
 
 -- ---- Q2 to Q4, in order
@@ -175,15 +144,10 @@ module _ (types tags : List ℕ) (k : ℕ) where
 module _ (types tags : List ℕ) where
   -- past k questions, those left come to what all come to
   abbrev pub TypesPast : ℕ → Type 0
-  TypesPast k =
-      ComesTo (verdictOf (typesAsk (tablesOf types tags))) (drop k (
-      firstNo (rows types) 0 (countAsk (tablesOf types tags))
-      ∷ firstNo (rows types) 0 (fieldsAsk (tablesOf types tags))
-      ∷ firstNo (length tags) 0 (tagAsk (tablesOf types tags))
-      ∷ []))
+  TypesPast k = ComesTo (verdictOf (typesAsk types tags)) (drop k (typesQuestions types tags))
 
   pub types-begin : TypesPast 0
-  unfolding typesAsk tablesOf inOrder
+  unfolding typesAsk
   types-begin = record { asked = refl }
 
 -- ---- Q5
@@ -201,29 +165,29 @@ module _ (n i total : ℕ) where
   unfolding _and_
   length-inside h l = rw (le-leb 1 n h, le-leb n 32 l)
 
-pub lengths-start : (blocks code : List ℕ) → lengthsAsk (routineOf blocks code) ≡ blocksAsk (routineOf blocks code) (rows blocks - 0) 0 0
-unfolding lengthsAsk routineOf
-lengths-start blocks code = rw sub-zero
+pub lengths-start : (blocks : List ℕ) (total : ℕ) → lengthsAsk blocks total ≡ blocksAsk blocks total (rows blocks - 0) 0 0
+unfolding lengthsAsk
+lengths-start blocks total = rw sub-zero
 
 -- whole is what the blocks from b on, at code index i, come to
-module _ (blocks code : List ℕ) (b i : ℕ) (whole : Outcome (Unit {0})) (e : whole ≡ blocksAsk (routineOf blocks code) (rows blocks - b) b i) where
+module _ (blocks : List ℕ) (total b i : ℕ) (whole : Outcome (Unit {0})) (e : whole ≡ blocksAsk blocks total (rows blocks - b) b i) where
   module _ (h : b < rows blocks) (n : ℕ) (en : n ≡ headOf blocks b) where
-    pub lengths-on : lengthWell n i (length code) ≡ true → whole ≡ blocksAsk (routineOf blocks code) (rows blocks - (b + 1)) (b + 1) (i + n)
-    unfolding blocksAsk routineOf ask
+    pub lengths-on : lengthWell n i total ≡ true → whole ≡ blocksAsk blocks total (rows blocks - (b + 1)) (b + 1) (i + n)
+    unfolding blocksAsk provided
     lengths-on l = rw (e, left (rows blocks) b h, ← en, l, add-one b)
 
-    pub lengths-stop : lengthWell n i (length code) ≡ false → refusing (refusal q5 b 0) ≡ verdictOf whole
-    unfolding blocksAsk routineOf ask verdictOf
+    pub lengths-stop : lengthWell n i total ≡ false → refusing (refusal q5 b 0) ≡ verdictOf whole
+    unfolding blocksAsk provided verdictOf
     lengths-stop l = rw (e, left (rows blocks) b h, ← en, l)
 
   module _ (h : b ≡ rows blocks) where
-    pub lengths-short : (i ≡ length code → ⊥) → refusing (refusal q5 (rows blocks) 0) ≡ verdictOf whole
-    unfolding blocksAsk routineOf ask verdictOf
-    lengths-short l = rw (e, h, sub-self, ne-eqb i (length code) l)
+    pub lengths-short : (i ≡ total → ⊥) → refusing (refusal q5 (rows blocks) 0) ≡ verdictOf whole
+    unfolding blocksAsk provided verdictOf
+    lengths-short l = rw (e, h, sub-self, ne-eqb i total l)
 
-    pub lengths-pass : i ≡ length code → passed ≡ verdictOf whole
-    unfolding blocksAsk routineOf ask verdictOf
-    lengths-pass l = rw (e, h, sub-self, eq-eqb i (length code) l)
+    pub lengths-pass : i ≡ total → passed ≡ verdictOf whole
+    unfolding blocksAsk provided verdictOf
+    lengths-pass l = rw (e, h, sub-self, eq-eqb i total l)
 
 -- starts has where blocks 0 to b start
 abbrev pub Filled : List ℕ → List ℕ → ℕ → Type 0
@@ -245,22 +209,15 @@ module _ (blocks starts : List ℕ) where
 
 -- ---- Q6
 
-module _ (types tags blocks code : List ℕ) (b count : ℕ) (e : count ≡ rows types) where
-  annotation-is : every 8 0 (placeWell count 8 (wordsOf blocks b)) ≡ every 8 0 (λ r. annotationWell (rows types) (getD (wordsOf blocks b) r 0))
+module _ (count : ℕ) (blocks : List ℕ) (b : ℕ) where
+  annotation-is : every 8 0 (placeWell count 8 (wordsOf blocks b)) ≡ every 8 0 (λ r. annotationWell count (getD (wordsOf blocks b) r 0))
   unfolding placeWell annotationWell every
-  annotation-is = rw e
+  annotation-is = refl
 
-  pub annotation-yes : every 8 0 (placeWell count 8 (wordsOf blocks b)) ≡ true
-      → annotationAsk (tablesOf types tags) (routineOf blocks code) b ≡ ok tt
-  unfolding annotationAsk tablesOf routineOf ask
+  pub annotation-yes : every 8 0 (placeWell count 8 (wordsOf blocks b)) ≡ true → annotationAsk count blocks b ≡ ok tt
+  unfolding annotationAsk provided
   annotation-yes h = rw (← annotation-is, h)
 
-  pub annotation-no : every 8 0 (placeWell count 8 (wordsOf blocks b)) ≡ false
-      → annotationAsk (tablesOf types tags) (routineOf blocks code) b ≡ refused (refusal q6 b 0)
-  unfolding annotationAsk tablesOf routineOf ask
+  pub annotation-no : every 8 0 (placeWell count 8 (wordsOf blocks b)) ≡ false → annotationAsk count blocks b ≡ refused (refusal q6 b 0)
+  unfolding annotationAsk provided
   annotation-no h = rw (← annotation-is, h)
-
-pub annotations-are : (types tags blocks code : List ℕ)
-    → firstNo (rows blocks) 0 (annotationAsk (tablesOf types tags) (routineOf blocks code)) ≡ annotationsAsk (tablesOf types tags) (routineOf blocks code)
-unfolding annotationsAsk routineOf
-annotations-are types tags blocks code = refl

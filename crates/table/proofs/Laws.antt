@@ -10,13 +10,12 @@ use lib.Seq.{getD-take, getD-drop}
 use lib.Dec.{ltb, leb, eqb}
 use borrow.Author.Tests.{lt-ltb, le-ltb, le-leb, ne-eqb, leb-true, ltb-true, eqb-true}
 use Rattle.model.specs.declared.Verdict.{Verdict}
-use Rattle.model.specs.Question.{_and_, _or_, pick, ask, firstNo, ok, q16, refusal, passed, refusing, verdictOf}
+use Rattle.model.specs.Question.{_and_, _or_, pick, ok, q16, refusal, passed, refusing, verdictOf, provided}
 use Rattle.model.specs.Word.{kindOf, recordOf, firstOf, secondOf}
-use Rattle.model.specs.Table.{rowOf, rows, headOf, wordsOf, startOf, tablesOf, routineOf}
-use Rattle.model.specs.Table.{wholeRows, typeLengthsAsk, codeLengthsAsk, countAsk, fieldWell, fieldsAsk, tagAsk, typesAsk}
-use Rattle.model.specs.Table.{usesRecord, usesFirst, usesSecond, dependency, wellMade, blocksAsk, lengthsAsk, annotationWell, annotationAsk, annotationsAsk}
-use Rattle.model.specs.Machine.{startAsk}
-use Rattle.model.proofs.Logic.{either, byEqual, and-true, or-true, ask-ok, passed-then, every-true, firstNo-ok}
+use Rattle.model.specs.Table.{rowOf, rows, headOf, wordsOf, startOf, tablesOf, routineOf, wholeRows, typeLengthsAsk, codeLengthsAsk, countAsk}
+use Rattle.model.specs.Table.{fieldWell, fieldsAsk, tagAsk, typesAsk, usesRecord, usesFirst, usesSecond, dependency, wellMade, blocksAsk, lengthsAsk}
+use Rattle.model.specs.Table.{annotationWell, annotationAsk, annotationsAsk, startAsk, typesQuestions, Code}
+use Rattle.model.proofs.Logic.{either, byEqual, and-true, or-true, ask-ok, passed-then, every-true, firstNo-ok, AllPassed, all-passed}
 use Rattle.table.proofs.Questions.{no-refusal}
 
 -- ---- rows
@@ -78,28 +77,28 @@ module _ (types tags : List ℕ) where
   unfolding tablesOf
   tables-tags = refl
 
-module _ (blocks code : List ℕ) where
-  pub routine-count : routineOf blocks code .count ≡ rows blocks
+module _ (C : Code) where
+  pub routine-count : routineOf C .count ≡ rows (C .blocks)
   unfolding routineOf
   routine-count = refl
 
-  pub routine-long : (b : ℕ) → routineOf blocks code .long b ≡ headOf blocks b
+  pub routine-long : (b : ℕ) → routineOf C .long b ≡ headOf (C .blocks) b
   unfolding routineOf
   routine-long b = refl
 
-  pub routine-start : (b : ℕ) → routineOf blocks code .start b ≡ startOf blocks b
+  pub routine-start : (b : ℕ) → routineOf C .start b ≡ startOf (C .blocks) b
   unfolding routineOf
   routine-start b = refl
 
-  pub routine-annotation : (b : ℕ) → routineOf blocks code .annotation b ≡ wordsOf blocks b
+  pub routine-annotation : (b : ℕ) → routineOf C .annotation b ≡ wordsOf (C .blocks) b
   unfolding routineOf
   routine-annotation b = refl
 
-  pub routine-part : (b : ℕ) → routineOf blocks code .part b ≡ take (headOf blocks b) (drop (startOf blocks b) code)
+  pub routine-part : (b : ℕ) → routineOf C .part b ≡ take (headOf (C .blocks) b) (drop (startOf (C .blocks) b) (C .code))
   unfolding routineOf
   routine-part b = refl
 
-  pub routine-total : routineOf blocks code .total ≡ length code
+  pub routine-total : routineOf C .total ≡ length (C .code)
   unfolding routineOf
   routine-total = refl
 
@@ -214,15 +213,10 @@ code-lengths-passed blocks code v e z =
 
 -- ---- Q2 to Q4 passed
 
-module _ (types tags : List ℕ) (v : Verdict) (e : v ≡ verdictOf (typesAsk (tablesOf types tags))) (z : v .number ≡ 0) where
-  each-ok : (firstNo (rows types) 0 (countAsk (tablesOf types tags)) ≡ ok tt)
-      × (firstNo (rows types) 0 (fieldsAsk (tablesOf types tags)) ≡ ok tt)
-      × (firstNo (length tags) 0 (tagAsk (tablesOf types tags)) ≡ ok tt)
-  unfolding typesAsk tablesOf
-  each-ok =
-      let (a, q) = passed-then _ _ (no-refusal (typesAsk (tablesOf types tags)) v e z) in
-      let (b, c) = passed-then _ _ q in
-      (a, b, c)
+module _ (types tags : List ℕ) (v : Verdict) (e : v ≡ verdictOf (typesAsk types tags)) (z : v .number ≡ 0) where
+  each-ok : AllPassed (typesQuestions types tags)
+  unfolding typesAsk
+  each-ok = all-passed (typesQuestions types tags) (no-refusal (typesAsk types tags) v e z)
 
   -- each size is 1 to 8
   pub size-bounds : (t : ℕ) → t < rows types → (1 ≤ headOf types t) × (headOf types t ≤ 8)
@@ -234,7 +228,7 @@ module _ (types tags : List ℕ) (v : Verdict) (e : v ≡ verdictOf (typesAsk (t
   field-answer : (t f : ℕ) → t < rows types → f < 8 → fieldWell (tablesOf types tags) t f ≡ true
   unfolding fieldsAsk
   field-answer t f h l =
-      every-true 8 0 _ (ask-ok _ _ _ (firstNo-ok _ 0 _ (each-ok .1) t (omega arith) (omega arith)) .0) f (omega arith) (omega arith)
+      every-true 8 0 _ (ask-ok _ _ _ (firstNo-ok _ 0 _ (each-ok .1 .0) t (omega arith) (omega arith)) .0) f (omega arith) (omega arith)
 
   -- a field's word is well made, and a word past the fields zero
   pub field-well-made : (t f : ℕ) → t < rows types → f < 8 → f < headOf types t
@@ -250,7 +244,7 @@ module _ (types tags : List ℕ) (v : Verdict) (e : v ≡ verdictOf (typesAsk (t
   pub tag-bound : (k : ℕ) → k < length tags → getD tags k 0 < rows types
   unfolding tagAsk tablesOf
   tag-bound k h =
-      ltb-true (getD tags k 0) (rows types) (ask-ok _ _ _ (firstNo-ok _ 0 _ (each-ok .2) k (omega arith) (omega arith)) .0)
+      ltb-true (getD tags k 0) (rows types) (ask-ok _ _ _ (firstNo-ok _ 0 _ (each-ok .1 .1 .0) k (omega arith) (omega arith)) .0)
 
 -- ---- Q5 passed
 
@@ -264,64 +258,59 @@ length-facts n i total h =
     let (b, c) = and-true (leb n 32) _ q in
     (leb-true 1 n a, leb-true n 32 b, leb-true (i + n) total c)
 
-module _ (blocks code : List ℕ) where
-  first-block : (n b i : ℕ) → blocksAsk (routineOf blocks code) (suc n) b i ≡ ok tt
-      → (lengthWell (headOf blocks b) i (length code) ≡ true) × (blocksAsk (routineOf blocks code) n (suc b) (i + headOf blocks b) ≡ ok tt)
-  unfolding blocksAsk routineOf
-  first-block n b i o = ask-ok (lengthWell (headOf blocks b) i (length code)) _ _ o
+module _ (blocks : List ℕ) (total : ℕ) where
+  first-block : (n b i : ℕ) → blocksAsk blocks total (suc n) b i ≡ ok tt
+      → (lengthWell (headOf blocks b) i total ≡ true) × (blocksAsk blocks total n (suc b) (i + headOf blocks b) ≡ ok tt)
+  unfolding blocksAsk
+  first-block n b i o = ask-ok (lengthWell (headOf blocks b) i total) _ _ o
 
   next-start : (b : ℕ) → startOf blocks b + headOf blocks b ≡ startOf blocks (suc b)
   unfolding startOf
   next-start b = refl
 
   -- of the n blocks from b on
-  each-block : (n b : ℕ) → blocksAsk (routineOf blocks code) n b (startOf blocks b) ≡ ok tt
-      → (j : ℕ) → b ≤ j → j < b + n → lengthWell (headOf blocks j) (startOf blocks j) (length code) ≡ true
+  each-block : (n b : ℕ) → blocksAsk blocks total n b (startOf blocks b) ≡ ok tt
+      → (j : ℕ) → b ≤ j → j < b + n → lengthWell (headOf blocks j) (startOf blocks j) total ≡ true
   each-block zero b o j lo hi = absurd (omega arith)
   each-block (suc n) b o j lo hi =
       let (a, q) = first-block n b (startOf blocks b) o in
       byEqual j b (λ s. rw s a) (λ d. each-block n (suc b) (rw (next-start b) at q) j (omega arith) (omega arith))
 
-  covered : (n b : ℕ) → blocksAsk (routineOf blocks code) n b (startOf blocks b) ≡ ok tt → (j : ℕ) → j ≡ b + n → startOf blocks j ≡ length code
-  unfolding blocksAsk routineOf
+  covered : (n b : ℕ) → blocksAsk blocks total n b (startOf blocks b) ≡ ok tt → (j : ℕ) → j ≡ b + n → startOf blocks j ≡ total
+  unfolding blocksAsk
   covered zero b o j e =
       let s : j ≡ b = omega arith in
-      rw s (eqb-true (startOf blocks b) (length code) (ask-ok (eqb (startOf blocks b) (length code)) _ _ o .0))
+      rw s (eqb-true (startOf blocks b) total (ask-ok (eqb (startOf blocks b) total) _ _ o .0))
   covered (suc n) b o j e = covered n (suc b) (rw (next-start b) at (first-block n b (startOf blocks b) o .1)) j (omega arith)
 
-module _ (blocks code : List ℕ) (v : Verdict) (e : v ≡ verdictOf (lengthsAsk (routineOf blocks code))) (z : v .number ≡ 0) where
-  blocks-ok : blocksAsk (routineOf blocks code) (rows blocks) 0 (startOf blocks 0) ≡ ok tt
-  unfolding lengthsAsk routineOf startOf
-  blocks-ok = no-refusal (lengthsAsk (routineOf blocks code)) v e z
+module _ (blocks : List ℕ) (total : ℕ) (q : lengthsAsk blocks total ≡ ok tt) where
+  blocks-ok : blocksAsk blocks total (rows blocks) 0 (startOf blocks 0) ≡ ok tt
+  unfolding lengthsAsk startOf
+  blocks-ok = q
 
-  pub block-bounds : (b : ℕ) → b < rows blocks → (1 ≤ headOf blocks b) × (headOf blocks b ≤ 32) × (startOf blocks b + headOf blocks b ≤ length code)
+  pub block-bounds : (b : ℕ) → b < rows blocks → (1 ≤ headOf blocks b) × (headOf blocks b ≤ 32) × (startOf blocks b + headOf blocks b ≤ total)
   block-bounds b h =
-      length-facts (headOf blocks b) (startOf blocks b) (length code) (each-block blocks code (rows blocks) 0 blocks-ok b (omega arith) (omega arith))
+      length-facts (headOf blocks b) (startOf blocks b) total (each-block blocks total (rows blocks) 0 blocks-ok b (omega arith) (omega arith))
 
   -- the blocks cover the code
-  pub code-covered : startOf blocks (rows blocks) ≡ length code
-  code-covered = covered blocks code (rows blocks) 0 blocks-ok (rows blocks) (omega arith)
+  pub code-covered : startOf blocks (rows blocks) ≡ total
+  code-covered = covered blocks total (rows blocks) 0 blocks-ok (rows blocks) (omega arith)
 
 -- ---- Q6 passed
 
-module _ (types tags blocks code : List ℕ) (v : Verdict) (e : v ≡ verdictOf (annotationsAsk (tablesOf types tags) (routineOf blocks code)))
-    (z : v .number ≡ 0) where
-  annotations-ok : firstNo (rows blocks) 0 (annotationAsk (tablesOf types tags) (routineOf blocks code)) ≡ ok tt
-  unfolding annotationsAsk routineOf
-  annotations-ok = no-refusal (annotationsAsk (tablesOf types tags) (routineOf blocks code)) v e z
-
-  pub annotation-well-made : (b r : ℕ) → b < rows blocks → r < 8 → wellMade (rows types) 8 (getD (wordsOf blocks b) r 0) ≡ true
-  unfolding annotationAsk annotationWell tablesOf routineOf
+module _ (count : ℕ) (blocks : List ℕ) (q : annotationsAsk count blocks ≡ ok tt) where
+  pub annotation-well-made : (b r : ℕ) → b < rows blocks → r < 8 → wellMade count 8 (getD (wordsOf blocks b) r 0) ≡ true
+  unfolding annotationsAsk annotationAsk annotationWell
   annotation-well-made b r h l =
-      every-true 8 0 _ (ask-ok _ _ _ (firstNo-ok _ 0 _ annotations-ok b (omega arith) (omega arith)) .0) r (omega arith) (omega arith)
+      every-true 8 0 _ (ask-ok _ _ _ (firstNo-ok _ 0 _ q b (omega arith) (omega arith)) .0) r (omega arith) (omega arith)
 
 -- ---- Q16
 
-module _ (blocks code : List ℕ) (b : ℕ) where
-  pub start-no : rows blocks ≤ b → refusing (refusal q16 0 0) ≡ verdictOf (startAsk (routineOf blocks code) b)
-  unfolding startAsk routineOf ask verdictOf
+module _ (blocks : List ℕ) (b : ℕ) where
+  pub start-no : rows blocks ≤ b → refusing (refusal q16 0 0) ≡ verdictOf (startAsk blocks b)
+  unfolding startAsk provided verdictOf
   start-no h = rw (le-ltb b (rows blocks) h)
 
-  pub start-yes : b < rows blocks → passed ≡ verdictOf (startAsk (routineOf blocks code) b)
-  unfolding startAsk routineOf ask verdictOf
+  pub start-yes : b < rows blocks → passed ≡ verdictOf (startAsk blocks b)
+  unfolding startAsk provided verdictOf
   start-yes h = rw (lt-ltb b (rows blocks) h)

@@ -1,15 +1,18 @@
 -- Laws of questions as a loop asks them, and a list of them in order: what the whole comes to one step on, at a no and at the end.
 use mathlib.Core.Path.{_≡_, refl, ap, sym, _∙_}
 use mathlib.Core.Bool.{Bool, true, false}
-use mathlib.Core.List.{List, [], _∷_, _++_}
+use mathlib.Core.List.{List, [], _∷_}
 use Prim.Native.Nat.{ℕ, suc, _+_, _-_, _<_, _≤_}
 use native.Mathlib.Nat.{sub-zero, sub-eq-zero-of-le}
 use native.Mathlib.Numerals.{add-one}
 use native.Mathlib.Omega.{arith}
+use lib.Dec.{leb}
+use borrow.Author.Tests.{le-leb, lt-leb}
 use Rattle.model.specs.declared.Verdict.{Verdict}
 use Rattle.model.proofs.Logic.{verdict-ok}
-pub use Rattle.model.proofs.Logic.{told-no, told-yes}
-use Rattle.model.specs.Question.{_and_, every, Refusal, Outcome, ok, refused, then, firstNo, passed, refusing, verdictOf}
+pub use Rattle.model.proofs.Logic.{test-false, test-true}
+use Rattle.model.specs.Question.{_and_, every, Refusal, Outcome, ok, refused, ask, asked, then, firstNo, passed, refusing, verdictOf, inOrder}
+use Rattle.model.specs.Question.{provided}
 
 -- ---- tests
 
@@ -31,6 +34,20 @@ module _ (f : ℕ → Bool) (n i : ℕ) (whole : Bool) (e : whole ≡ every (n -
   unfolding every
   every-end h = rw (e, sub-eq-zero-of-le h)
 
+-- a number within bounds, and one on either side of them
+module _ (low high n : ℕ) where
+  pub too-low : n < low → leb low n and leb n high ≡ false
+  unfolding _and_
+  too-low h = rw (lt-leb low n h)
+
+  pub too-high : low ≤ n → high < n → leb low n and leb n high ≡ false
+  unfolding _and_
+  too-high h l = rw (le-leb low n h, lt-leb n high l)
+
+  pub in-bounds : low ≤ n → n ≤ high → leb low n and leb n high ≡ true
+  unfolding _and_
+  in-bounds h l = rw (le-leb low n h, le-leb n high l)
+
 -- ---- verdicts
 
 -- number 0 is given only where no question had a no
@@ -39,53 +56,57 @@ no-refusal o v e z = verdict-ok o (sym (ap (λ (u : Verdict). u .number) e) ∙ 
 
 -- ---- one question, then those that follow
 
+module _ {A : Type 0} (b : Bool) (r : Refusal) (k : Unit {0} → Outcome A) where
+  pub ask-no : b ≡ false → refusing r ≡ verdictOf (ask b r k)
+  unfolding provided verdictOf
+  ask-no h = rw h
+
+  pub ask-yes : {v : Verdict} → b ≡ true → v ≡ verdictOf (k tt) → v ≡ verdictOf (ask b r k)
+  unfolding provided
+  ask-yes h e = rw h e
+
+-- and the last
+pub asked-yes : (b : Bool) (r : Refusal) → b ≡ true → passed ≡ verdictOf (asked b r)
+unfolding provided verdictOf
+asked-yes b r h = rw h
+
 stops : {B : Type 0} (o : Outcome (Unit {0})) (k : Unit {0} → Outcome B) → (verdictOf o .number ≡ 0 → ⊥) → verdictOf o ≡ verdictOf (then o k)
 unfolding verdictOf then
 stops (ok a) k h = absurd (h refl)
 stops (refused r) k h = refl
 
 module _ {B : Type 0} (o : Outcome (Unit {0})) (k : Unit {0} → Outcome B) (v : Verdict) (e : v ≡ verdictOf o) where
-  then-on : v .number ≡ 0 → verdictOf (then o k) ≡ verdictOf (k tt)
+  pub then-on : v .number ≡ 0 → verdictOf (then o k) ≡ verdictOf (k tt)
   unfolding then
   then-on z = rw (no-refusal o v e z)
 
-  then-stops : (v .number ≡ 0 → ⊥) → v ≡ verdictOf (then o k)
+  pub then-stops : (v .number ≡ 0 → ⊥) → v ≡ verdictOf (then o k)
   then-stops h = e ∙ stops o k (λ z. h (ap (λ (u : Verdict). u .number) e ∙ z))
 
 -- ---- a list of questions
-
--- each is asked where none before it had a no
-unfoldable pub inOrder : List (Outcome (Unit {0})) → Outcome (Unit {0})
-inOrder [] = ok tt
-inOrder (q ∷ []) = q
-inOrder (q ∷ r ∷ rest) = then q λ _. inOrder (r ∷ rest)
-
--- some of them asked as one
-pub as-one : (qs : List (Outcome (Unit {0}))) (r : Outcome (Unit {0})) (rest : List (Outcome (Unit {0})))
-    → inOrder (qs ++ r ∷ rest) ≡ inOrder (inOrder qs ∷ r ∷ rest)
-unfolding inOrder then
-as-one [] r rest = refl
-as-one (q ∷ []) r rest = refl
-as-one (ok u ∷ q ∷ qs) r rest = as-one (q ∷ qs) r rest
-as-one (refused x ∷ q ∷ qs) r rest = refl
 
 -- whole is what the questions that are left to ask come to
 pub record ComesTo (whole : Verdict) (rest : List (Outcome (Unit {0}))) : Type 0 where
   pub asked : whole ≡ verdictOf (inOrder rest)
 
-pub after-yes : {whole v : Verdict} {q r : Outcome (Unit {0})} {rest : List (Outcome (Unit {0}))}
-    → ComesTo whole (q ∷ r ∷ rest) → v ≡ verdictOf q → v .number ≡ 0 → ComesTo whole (r ∷ rest)
+pub after-yes : {whole v : Verdict} {q : Outcome (Unit {0})} {rest : List (Outcome (Unit {0}))}
+    → ComesTo whole (q ∷ rest) → v ≡ verdictOf q → v .number ≡ 0 → ComesTo whole rest
 unfolding inOrder
 after-yes c e z = record { asked = c .asked ∙ then-on _ _ _ e z }
 
-pub at-no : {whole v : Verdict} {q r : Outcome (Unit {0})} {rest : List (Outcome (Unit {0}))}
-    → ComesTo whole (q ∷ r ∷ rest) → v ≡ verdictOf q → (v .number ≡ 0 → ⊥) → v ≡ whole
+pub at-no : {whole v : Verdict} {q : Outcome (Unit {0})} {rest : List (Outcome (Unit {0}))}
+    → ComesTo whole (q ∷ rest) → v ≡ verdictOf q → (v .number ≡ 0 → ⊥) → v ≡ whole
 unfolding inOrder
 at-no c e n = then-stops _ _ _ e n ∙ sym (c .asked)
 
+-- one question, and nothing after it
+alone : (q : Outcome (Unit {0})) → verdictOf q ≡ verdictOf (inOrder (q ∷ []))
+unfolding inOrder then verdictOf
+alone (ok u) = refl
+alone (refused r) = refl
+
 pub at-last : {whole v : Verdict} {q : Outcome (Unit {0})} → ComesTo whole (q ∷ []) → v ≡ verdictOf q → v ≡ whole
-unfolding inOrder
-at-last c e = e ∙ sym (c .asked)
+at-last c e = e ∙ alone _ ∙ sym (c .asked)
 
 -- ---- the same question of each row
 
@@ -102,10 +123,26 @@ module _ (f : ℕ → Outcome (Unit {0})) (n t : ℕ) (whole : Outcome (Unit {0}
   unfolding firstNo
   first-no h v ev z = rw (e, left n t h) (then-stops _ _ v ev z)
 
-  pub first-stops : t < n → (r : Refusal) → f t ≡ refused r → refusing r ≡ verdictOf whole
-  unfolding firstNo then verdictOf
-  first-stops h r l = rw (e, left n t h, l)
-
   pub first-end : n ≤ t → passed ≡ verdictOf whole
   unfolding firstNo verdictOf
   first-end h = rw (e, sub-eq-zero-of-le h)
+
+-- the same question of each of n rows, as a loop asks it, whatever X leaves open: those from t on come to what all come to
+pub record RowsLeft {X : Type 0} (whole : X → Outcome (Unit {0})) (f : X → ℕ → Outcome (Unit {0})) (n t : ℕ) : Type 0 where
+  pub rest : (x : X) → whole x ≡ firstNo (n - t) t (f x)
+  pub within : t ≤ n
+
+pub rows-begin : {X : Type 0} {whole : X → Outcome (Unit {0})} {f : X → ℕ → Outcome (Unit {0})} {n : ℕ}
+    → ((x : X) → whole x ≡ firstNo n 0 (f x)) → RowsLeft whole f n 0
+rows-begin e = record { rest = λ x. e x ∙ first-start _ _; within = omega arith }
+
+module _ {X : Type 0} {whole : X → Outcome (Unit {0})} {f : X → ℕ → Outcome (Unit {0})} {n t : ℕ} (l : RowsLeft whole f n t) where
+  pub row-yes : t < n → ((x : X) → f x t ≡ ok tt) → RowsLeft whole f n (t + 1)
+  row-yes h y = record { rest = λ x. first-on (f x) n t (whole x) (l .rest x) h (y x); within = omega arith }
+
+  pub row-no : (x : X) {r : Refusal} → t < n → f x t ≡ refused r → refusing r ≡ verdictOf (whole x)
+  unfolding firstNo then verdictOf
+  row-no x h y = rw (l .rest x, left n t h, y)
+
+  pub rows-end : (x : X) → n ≤ t → passed ≡ verdictOf (whole x)
+  rows-end x h = first-end (f x) n t (whole x) (l .rest x) h

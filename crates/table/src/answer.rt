@@ -3,12 +3,13 @@ ghost use mathlib.Core.Path.{_≡_};
 ghost use Prim.Native.Nat.{_<_};
 ghost use Rattle.model.specs.Question.{passed};
 use model::Verdict;
+use model::number;
 
 pub fn passed() -> Verdict
     ensures { λ r. ⌜ r ≡ passed ⌝ }
 {
     Verdict {
-        number: 0,
+        number: number::PASSED,
         first: 0,
         second: 0,
     }

@@ -6,51 +6,17 @@ ghost use lib.ListN.{length, getD};
 ghost use lib.Dec.{ltb, leb, eqb};
 ghost use Rattle.model.specs.Question.{_and_, pick, every, firstNo, verdictOf};
 ghost use Rattle.model.specs.Word.{kindOf};
-ghost use Rattle.model.specs.Table.{rowOf, rows, headOf, wordsOf, tablesOf, routineOf, startOf};
-ghost use Rattle.model.specs.Table.{wholeRows, typeLengthsAsk, codeLengthsAsk, countAsk};
-ghost use Rattle.model.specs.Table.{usesRecord, dependency, wellMade, fieldsAsk, tagAsk, typesAsk};
-ghost use Rattle.model.specs.Table.{lengthsAsk, annotationsAsk};
+ghost use Rattle.model.specs.Table.{rowOf, rows, headOf, wordsOf, tablesOf, startOf, wholeRows, typeLengthsAsk, codeLengthsAsk, countAsk, usesRecord};
+ghost use Rattle.model.specs.Table.{dependency, wellMade, fieldsAsk, tagAsk, typesAsk, lengthsAsk, annotationsAsk};
 ghost use Rattle.table.specs.Row.{placeWell};
 use model::Verdict;
+use model::limit;
+use model::number;
 
 pub mod answer;
 
-// Words of a row of the type or block table: a number and eight type words, one for each field or register.
-pub const ROW_WORDS: usize = 9;
-
-pub const TYPE_WORDS: usize = 8;
-
-// The most rows or words that a table may have.
-const MOST_TYPES: usize = 64;
-
-const MOST_TAGS: usize = 64;
-
-const MOST_BLOCKS: usize = 256;
-
-const MOST_CODE: usize = 8192;
-
-// The largest field count and the largest block length. Both start at 1.
-const MOST_FIELDS: u32 = 8;
-
-const LONGEST_BLOCK: u32 = 32;
-
 // The names in an annotation are the registers.
-const REGISTERS: u32 = 8;
-
-// The numbers of the questions Q1 to Q6, and of Q16, which the entry check and a run ask of the block table.
-const LENGTHS: u32 = 1;
-
-const FIELD_COUNT: u32 = 2;
-
-const TYPE_WORD: u32 = 3;
-
-const TAG: u32 = 4;
-
-const BLOCK_LENGTH: u32 = 5;
-
-const ANNOTATION: u32 = 6;
-
-pub const START_BLOCK: u32 = 16;
+const NAMES: u32 = limit::REGISTERS as u32;
 
 // ---- rows
 
@@ -59,8 +25,8 @@ pub fn row(table: &[u32], k: usize) -> &[u32]
     requires { ⌜ k * 9 + 9 ≤ length (now table) ⌝ }
     ensures { λ r. ⌜ now r ≡ rowOf (now (table .entry)) k ⌝ }
 {
-    let at = k * ROW_WORDS;
-    let end = at + ROW_WORDS;
+    let at = k * limit::ROW_WORDS;
+    let end = at + limit::ROW_WORDS;
     &table[at..end]
 }
 
@@ -89,24 +55,24 @@ fn whole_rows(most: usize, n: usize) -> bool
     requires { ⌜ most ≤ 65536 ⌝ }
     ensures { λ r. ⌜ r ≡ wholeRows most n ⌝ }
 {
-    if n % ROW_WORDS != 0 {
+    if n % limit::ROW_WORDS != 0 {
         return false;
     }
-    if n < ROW_WORDS {
+    if n < limit::ROW_WORDS {
         return false;
     }
-    n <= ROW_WORDS * most
+    n <= limit::ROW_WORDS * most
 }
 
 // Q1 for the type table, 0, and the tag table, 1.
 pub fn type_lengths(types: usize, tags: usize) -> Verdict
     ensures { λ r. ⌜ r ≡ verdictOf (typeLengthsAsk types tags) ⌝ }
 {
-    if !whole_rows(MOST_TYPES, types) {
-        return answer::refused(LENGTHS, 0);
+    if !whole_rows(limit::TYPES, types) {
+        return answer::refused(number::TABLE_LENGTH, 0);
     }
-    if MOST_TAGS < tags {
-        return answer::refused(LENGTHS, 1);
+    if limit::TAGS < tags {
+        return answer::refused(number::TABLE_LENGTH, 1);
     }
     answer::passed()
 }
@@ -115,14 +81,14 @@ pub fn type_lengths(types: usize, tags: usize) -> Verdict
 pub fn code_lengths(blocks: usize, code: usize) -> Verdict
     ensures { λ r. ⌜ r ≡ verdictOf (codeLengthsAsk blocks code) ⌝ }
 {
-    if !whole_rows(MOST_BLOCKS, blocks) {
-        return answer::refused(LENGTHS, 2);
+    if !whole_rows(limit::BLOCKS, blocks) {
+        return answer::refused(number::TABLE_LENGTH, 2);
     }
     if code < 1 {
-        return answer::refused(LENGTHS, 3);
+        return answer::refused(number::TABLE_LENGTH, 3);
     }
-    if MOST_CODE < code {
-        return answer::refused(LENGTHS, 3);
+    if limit::CODE < code {
+        return answer::refused(number::TABLE_LENGTH, 3);
     }
     answer::passed()
 }
@@ -217,7 +183,7 @@ fn words_well(table: &[u32], k: usize, count: u32, n: u32) -> bool
     ensures { λ r. ⌜ r ≡ every 8 0 (placeWell count n (wordsOf (now (table .entry)) k)) ⌝ }
 {
     let mut f = 0;
-    while f < TYPE_WORDS {
+    while f < limit::TYPE_WORDS {
         if !place_well(count, n, f, type_word(table, k, f)) {
             return false;
         }
@@ -233,15 +199,15 @@ fn field_counts(types: &[u32]) -> Verdict
     requires { ⌜ length (now types) ≤ 576 ⌝ }
     ensures { λ r. ⌜ ((tags : List ℕ) → r ≡ verdictOf (firstNo (rows (now (types .entry))) 0 (countAsk (tablesOf (now (types .entry)) tags)))) ⌝ }
 {
-    let count = types.len() / ROW_WORDS;
+    let count = types.len() / limit::ROW_WORDS;
     let mut t = 0;
     while t < count {
         let n = head(types, t);
         if n < 1 {
-            return answer::refused(FIELD_COUNT, t);
+            return answer::refused(number::FIELD_COUNT, t);
         }
-        if MOST_FIELDS < n {
-            return answer::refused(FIELD_COUNT, t);
+        if limit::FIELDS < n {
+            return answer::refused(number::FIELD_COUNT, t);
         }
         t += 1;
     }
@@ -253,11 +219,11 @@ fn field_words(types: &[u32]) -> Verdict
     requires { ⌜ length (now types) ≤ 576 ⌝ }
     ensures { λ r. ⌜ ((tags : List ℕ) → r ≡ verdictOf (firstNo (rows (now (types .entry))) 0 (fieldsAsk (tablesOf (now (types .entry)) tags)))) ⌝ }
 {
-    let count = types.len() / ROW_WORDS;
+    let count = types.len() / limit::ROW_WORDS;
     let mut t = 0;
     while t < count {
         if !words_well(types, t, count as u32, head(types, t)) {
-            return answer::refused(TYPE_WORD, t);
+            return answer::refused(number::FIELD_TYPE, t);
         }
         t += 1;
     }
@@ -269,11 +235,11 @@ fn tag_types(types: &[u32], tags: &[u32]) -> Verdict
     requires { ⌜ (length (now types) ≤ 576) × (length (now tags) ≤ 64) ⌝ }
     ensures { λ r. ⌜ r ≡ verdictOf (firstNo (length (now (tags .entry))) 0 (tagAsk (tablesOf (now (types .entry)) (now (tags .entry))))) ⌝ }
 {
-    let count = (types.len() / ROW_WORDS) as u32;
+    let count = (types.len() / limit::ROW_WORDS) as u32;
     let mut k = 0;
     while k < tags.len() {
         if count <= tags[k] {
-            return answer::refused(TAG, k);
+            return answer::refused(number::TAG, k);
         }
         k += 1;
     }
@@ -283,14 +249,14 @@ fn tag_types(types: &[u32], tags: &[u32]) -> Verdict
 // Q2 to Q4, each over all rows before the next.
 pub fn types(types: &[u32], tags: &[u32]) -> Verdict
     requires { ⌜ (length (now types) ≤ 576) × (length (now tags) ≤ 64) ⌝ }
-    ensures { λ r. ⌜ r ≡ verdictOf (typesAsk (tablesOf (now (types .entry)) (now (tags .entry)))) ⌝ }
+    ensures { λ r. ⌜ r ≡ verdictOf (typesAsk (now (types .entry)) (now (tags .entry))) ⌝ }
 {
     let counts = field_counts(types);
-    if counts.number != 0 {
+    if counts.number != number::PASSED {
         return counts;
     }
     let words = field_words(types);
-    if words.number != 0 {
+    if words.number != number::PASSED {
         return words;
     }
     tag_types(types, tags)
@@ -306,20 +272,20 @@ fn length_well(n: u32, i: u32, total: u32) -> bool
     if n < 1 {
         return false;
     }
-    if LONGEST_BLOCK < n {
+    if limit::BLOCK_LENGTH < n {
         return false;
     }
     i + n <= total
 }
 
 // Q5. Where it passes, starts has the code index at which each block starts, and the code's length after the last.
-pub fn lengths(blocks: &[u32], code: &[u32], starts: &mut [u32; 257]) -> Verdict
+pub fn lengths(blocks: &[u32], code: &[u32], starts: &mut [u32; limit::BLOCKS + 1]) -> Verdict
     requires { ⌜ (length (now blocks) ≤ 2304) × (length (now code) ≤ 8192) ⌝ }
-    ensures verdict { λ r. ⌜ r ≡ verdictOf (lengthsAsk (routineOf (now (blocks .entry)) (now (code .entry)))) ⌝ }
+    ensures verdict { λ r. ⌜ r ≡ verdictOf (lengthsAsk (now (blocks .entry)) (length (now (code .entry)))) ⌝ }
     ensures filled { λ r. ⌜ (length (now (starts .entry)) ≡ 257 → r .number ≡ 0
         → (b : ℕ) → b ≤ rows (now (blocks .entry)) → getD (now (starts .exit)) b 0 ≡ startOf (now (blocks .entry)) b) ⌝ }
 {
-    let count = blocks.len() / ROW_WORDS;
+    let count = blocks.len() / limit::ROW_WORDS;
     let total = code.len() as u32;
     starts[0] = 0;
     let mut i = 0;
@@ -327,14 +293,14 @@ pub fn lengths(blocks: &[u32], code: &[u32], starts: &mut [u32; 257]) -> Verdict
     while b < count {
         let n = head(blocks, b);
         if !length_well(n, i, total) {
-            return answer::refused(BLOCK_LENGTH, b);
+            return answer::refused(number::BLOCK_LENGTH, b);
         }
         i += n;
         b += 1;
         starts[b] = i;
     }
     if i != total {
-        return answer::refused(BLOCK_LENGTH, count);
+        return answer::refused(number::BLOCK_LENGTH, count);
     }
     answer::passed()
 }
@@ -342,14 +308,13 @@ pub fn lengths(blocks: &[u32], code: &[u32], starts: &mut [u32; 257]) -> Verdict
 // Q6, over count record types.
 pub fn annotations(count: u32, blocks: &[u32]) -> Verdict
     requires { ⌜ length (now blocks) ≤ 2304 ⌝ }
-    ensures { λ r. ⌜ ((types tags code : List ℕ) → count ≡ rows types
-        → r ≡ verdictOf (annotationsAsk (tablesOf types tags) (routineOf (now (blocks .entry)) code))) ⌝ }
+    ensures { λ r. ⌜ r ≡ verdictOf (annotationsAsk count (now (blocks .entry))) ⌝ }
 {
-    let total = blocks.len() / ROW_WORDS;
+    let total = blocks.len() / limit::ROW_WORDS;
     let mut b = 0;
     while b < total {
-        if !words_well(blocks, b, count, REGISTERS) {
-            return answer::refused(ANNOTATION, b);
+        if !words_well(blocks, b, count, NAMES) {
+            return answer::refused(number::ANNOTATION, b);
         }
         b += 1;
     }

@@ -1,14 +1,23 @@
 // The check of a routine: Q7 to Q15 of its blocks, and the public call with Q1 to Q15.
 //
-// The arrays of a block's reading are locals of `block`, lent to what reads its instructions.
+// The arrays of a block's reading are locals of `block` and of `inside`, lent to what reads its instructions.
 ghost use mathlib.Core.Path.{_≡_};
-ghost use Prim.Native.Nat.{ℕ, _+_, _*_, _%_, _≤_, _<_};
-ghost use lib.ListN.{length, getD};
-ghost use Rattle.model.specs.Question.{verdictOf};
-ghost use Rattle.model.specs.Table.{rows, tablesOf, routineOf, headOf, startOf};
-ghost use Rattle.model.specs.Check.{blockAsk, judge, check};
+ghost use mathlib.Core.Bool.{true};
+ghost use mathlib.Core.List.{List};
+ghost use Prim.Native.Nat.{ℕ, _+_, _*_, _≤_, _<_};
+ghost use lib.ListN.{length};
+ghost use Rattle.model.specs.Question.{Question, Refusal, isAnswer, ok, verdictOf};
+ghost use Rattle.model.specs.Table.{codeOf, Routine, routineOf, tablesOf};
+ghost use Rattle.model.specs.Machine.{decode};
+ghost use Rattle.model.specs.Check.{readInstruction, blockAsk, judge, tablesAsk, check};
 ghost use Rattle.instruction.specs.Rows.{opcodeRows};
+ghost use Rattle.fits.specs.Numbers.{tablesIn};
+ghost use Rattle.straight.specs.State.{Sizes, numbered};
+ghost use Rattle.branch.specs.End.{readingIn};
+ghost use Rattle.verify.specs.Blocks.{Starts, BlockAt, begun, Stops, ReadSoFar};
 use model::Verdict;
+use model::limit;
+use model::number;
 use straight::Fetched;
 use straight::NO_BASE;
 use straight::Progress;
@@ -16,65 +25,159 @@ use table::answer;
 
 // ---- blocks
 
-// Q7 to Q15 of block b, whose part of the code starts at first.
+// Where the reading of a block has stopped: the number of a no, or 0 before its last instruction; the base of the open record; the
+// offset.
+struct Stopped {
+    number: u32,
+    base: u32,
+    at: usize,
+}
+
+// Q7, Q8 and Q10 to Q12 of the instructions before the last of a block, whose code is part.
+fn inside(
+    rows: &[u32; 13],
+    types: &[u32],
+    tags: &[u32],
+    registers: &mut [u8; 8],
+    words: &mut [u32; 256],
+    frames: &mut [u8; 32],
+    constants: &mut [u32; 32],
+    part: &[u32],
+) -> Stopped
+    requires { ⌜ (now rows ≡ opcodeRows) × Sizes (now types) × (1 ≤ length (now part)) × (length (now part) ≤ 32) ⌝ }
+    ensures reads { λ r. ⌜ ((P : Routine) (b first : ℕ) → BlockAt P b first (now (part .entry))
+        → ReadSoFar (tablesIn (now (types .entry)) tags) P b
+        (begun (now (registers .entry)) (now (words .entry)) (now (frames .entry)) (now (constants .entry)))
+        r (now (registers .exit)) (now (words .exit)) (now (frames .exit)) (now (constants .exit))) ⌝ }
+    ensures stops { λ r. ⌜ Stops (length (now (part .entry))) r ⌝ }
+{
+    let mut views = [0u8; 256];
+    let mut fields = [0u8; 8];
+    let mut s = Progress {
+        number: number::PASSED,
+        since: 0,
+        base: NO_BASE,
+    };
+    let last = part.len() - 1;
+    let mut j = 0;
+    while j < last {
+        let word = part[j];
+        let g = j + 1;
+        let i = Fetched { word, g, s };
+        s = straight::read_inside(
+            rows,
+            types,
+            tags,
+            registers,
+            words,
+            frames,
+            constants,
+            &mut views,
+            &mut fields,
+            i,
+        );
+        if s.number != number::PASSED {
+            return Stopped {
+                number: s.number,
+                base: s.base,
+                at: j,
+            };
+        }
+        j += 1;
+    }
+    Stopped {
+        number: number::PASSED,
+        base: s.base,
+        at: j,
+    }
+}
+
+// The block after b, or b itself where it is the last.
+fn next_block(b: usize, count: usize) -> usize
+    requires { ⌜ b < count ⌝ }
+    ensures { λ r. ⌜ (r < count) × (b + 1 < count → r ≡ b + 1) ⌝ }
+{
+    if b + 1 < count {
+        return b + 1;
+    }
+    b
+}
+
+// Q7 to Q9 and Q13 to Q15 of the last instruction of block b, which leads to the rows of its target and of the next block.
+fn last(
+    rows: &[u32; 13],
+    tags: &[u32],
+    blocks: &[u32],
+    registers: &[u8; 8],
+    words: &mut [u32; 256],
+    frames: &[u8; 32],
+    constants: &[u32; 32],
+    base: u32,
+    word: u32,
+    b: usize,
+) -> u32
+    requires { ⌜ (now rows ≡ opcodeRows) × (b * 9 + 9 ≤ length (now blocks)) × (length (now blocks) ≤ 2304) ⌝ }
+    ensures { λ r. ⌜ ((place : Question → Refusal) (types code views fields : List ℕ) (since g : ℕ)
+        → numbered place r (readingIn registers words frames constants views fields since base)
+        ≡ readInstruction (tablesIn types tags) (routineOf (codeOf (now (blocks .entry)) code)) place b g true (decode word)
+        (readingIn registers words frames constants views fields since base))
+        × (isAnswer r ≡ true) ⌝ }
+{
+    let count = blocks.len() / limit::ROW_WORDS;
+    let no = branch::may_end(rows, word, b as u32, count as u32, base);
+    if no != number::PASSED {
+        return no;
+    }
+    let taken = table::row(blocks, instruction::target(word) as usize);
+    let untaken = table::row(blocks, next_block(b, count));
+    branch::edges(
+        tags,
+        registers,
+        words,
+        frames,
+        constants,
+        word,
+        &taken[1..],
+        &untaken[1..],
+    )
+}
+
+// Q7 to Q15 of block b, whose code is part and starts at first.
 fn block(
     rows: &[u32; 13],
     types: &[u32],
     tags: &[u32],
     blocks: &[u32],
-    code: &[u32],
+    part: &[u32],
     b: usize,
     first: usize,
 ) -> Verdict
-    requires { ⌜ (now rows ≡ opcodeRows) × (b * 9 + 9 ≤ length (now blocks)) × (length (now blocks) ≤ 2304) × (first ≡ startOf (now blocks) b)
-        × (1 ≤ headOf (now blocks) b) × (headOf (now blocks) b ≤ 32) × (first + headOf (now blocks) b ≤ length (now code))
-        × (length (now code) ≤ 8192) × (length (now types) % 9 ≡ 0) × ((t : ℕ) → headOf (now types) t ≤ 8) ⌝ }
-    ensures { λ r. ⌜ r ≡ verdictOf (blockAsk (tablesOf (now (types .entry)) (now (tags .entry))) (routineOf (now (blocks .entry)) (now (code .entry))) b) ⌝ }
+    requires { ⌜ (now rows ≡ opcodeRows) × Sizes (now types) × (b * 9 + 9 ≤ length (now blocks)) × (length (now blocks) ≤ 2304)
+        × (1 ≤ length (now part)) × (length (now part) ≤ 32) × (first ≤ 8192) ⌝ }
+    ensures { λ r. ⌜ ((code : List ℕ) → BlockAt (routineOf (codeOf (now (blocks .entry)) code)) b first (now (part .entry))
+        → r ≡ verdictOf (blockAsk (tablesOf (now (types .entry)) (now (tags .entry))) (routineOf (codeOf (now (blocks .entry)) code)) b)) ⌝ }
 {
     let own = table::row(blocks, b);
     let mut registers = [0u8, 1, 2, 3, 4, 5, 6, 7];
     let mut words = [0u32; 256];
-    straight::lay(&mut words, &own[1..], 0);
+    straight::copy_row(&mut words, &own[1..], 0);
     let mut frames = [0u8; 32];
     let mut constants = [0u32; 32];
-    let mut views = [0u8; 256];
-    let mut fields = [0u8; 8];
-    let mut s = Progress {
-        number: 0,
-        since: 0,
-        base: NO_BASE,
-    };
-    let n = table::head(blocks, b) as usize;
-    let end = first + n;
-    let part = &code[first..end];
-    let mut j = 0;
-    while j + 1 < n {
-        let word = part[j];
-        let g = j + 1;
-        let i = Fetched {
-            word: word,
-            g: g,
-            s: s,
-        };
-        s = straight::early(
-            rows,
-            types,
-            tags,
-            &mut registers,
-            &mut words,
-            &mut frames,
-            &mut constants,
-            &mut views,
-            &mut fields,
-            i,
-        );
-        let no = s.number;
-        if no != 0 {
-            return answer::refused_at(no, b, first + j);
-        }
-        j += 1;
+    let r = inside(
+        rows,
+        types,
+        tags,
+        &mut registers,
+        &mut words,
+        &mut frames,
+        &mut constants,
+        part,
+    );
+    let at = r.at;
+    if r.number != number::PASSED {
+        return answer::refused_at(r.number, b, first + at);
     }
-    let no = branch::last(
+    let no = last(
         rows,
         tags,
         blocks,
@@ -82,30 +185,36 @@ fn block(
         &mut words,
         &frames,
         &constants,
-        s.base,
-        part[j],
+        r.base,
+        part[at],
         b,
     );
-    if no != 0 {
-        return answer::refused_at(no, b, first + j);
+    if no != number::PASSED {
+        return answer::refused_at(no, b, first + at);
     }
     answer::passed()
 }
 
-// Q7 to Q15 of all blocks, in order. The code of block b starts at starts[b].
-fn judge(types: &[u32], tags: &[u32], blocks: &[u32], code: &[u32], starts: &[u32; 257]) -> Verdict
-    requires { ⌜ (length (now blocks) ≤ 2304) × (length (now code) ≤ 8192) × (length (now types) % 9 ≡ 0) × ((t : ℕ) → headOf (now types) t ≤ 8)
-        × ((b : ℕ) → b < rows (now blocks) → (1 ≤ headOf (now blocks) b) × (headOf (now blocks) b ≤ 32) × (startOf (now blocks) b + headOf (now blocks) b ≤ length (now code)))
-        × ((b : ℕ) → b ≤ rows (now blocks) → getD (now starts) b 0 ≡ startOf (now blocks) b) ⌝ }
-    ensures { λ r. ⌜ r ≡ verdictOf (judge (tablesOf (now (types .entry)) (now (tags .entry))) (routineOf (now (blocks .entry)) (now (code .entry)))) ⌝ }
+// Q7 to Q15 of all blocks, in order. The code of block b is from starts[b] to starts[b + 1].
+fn judge(
+    types: &[u32],
+    tags: &[u32],
+    blocks: &[u32],
+    code: &[u32],
+    starts: &[u32; limit::BLOCKS + 1],
+) -> Verdict
+    requires { ⌜ (tablesAsk (now types) (now tags) (codeOf (now blocks) (now code)) ≡ ok tt) × Starts (now blocks) (now starts) ⌝ }
+    ensures { λ r. ⌜ r ≡ verdictOf (judge (tablesOf (now (types .entry)) (now (tags .entry)))
+        (routineOf (codeOf (now (blocks .entry)) (now (code .entry))))) ⌝ }
 {
     let rows = instruction::opcode_rows();
-    let count = blocks.len() / table::ROW_WORDS;
+    let count = blocks.len() / limit::ROW_WORDS;
     let mut b = 0;
     while b < count {
         let first = starts[b] as usize;
-        let v = block(&rows, types, tags, blocks, code, b, first);
-        if v.number != 0 {
+        let end = starts[b + 1] as usize;
+        let v = block(&rows, types, tags, blocks, &code[first..end], b, first);
+        if v.number != number::PASSED {
             return v;
         }
         b += 1;
@@ -115,30 +224,44 @@ fn judge(types: &[u32], tags: &[u32], blocks: &[u32], code: &[u32], starts: &[u3
 
 // ---- the check
 
-// The check of a routine: the first no of Q1 to Q15, with its place.
-pub fn check(types: &[u32], tags: &[u32], blocks: &[u32], code: &[u32]) -> Verdict
-    ensures { λ r. ⌜ r ≡ check (now (types .entry)) (now (tags .entry)) (now (blocks .entry)) (now (code .entry)) ⌝ }
+// Q1 to Q6. starts gets where each block starts.
+fn tables(
+    types: &[u32],
+    tags: &[u32],
+    blocks: &[u32],
+    code: &[u32],
+    starts: &mut [u32; limit::BLOCKS + 1],
+) -> Verdict
+    ensures verdict { λ r. ⌜ r ≡ verdictOf (tablesAsk (now (types .entry)) (now (tags .entry)) (codeOf (now (blocks .entry)) (now (code .entry)))) ⌝ }
+    ensures filled { λ r. ⌜ (length (now (starts .entry)) ≡ 257 → r .number ≡ 0 → Starts (now (blocks .entry)) (now (starts .exit))) ⌝ }
 {
     let type_lengths = table::type_lengths(types.len(), tags.len());
-    if type_lengths.number != 0 {
+    if type_lengths.number != number::PASSED {
         return type_lengths;
     }
     let code_lengths = table::code_lengths(blocks.len(), code.len());
-    if code_lengths.number != 0 {
+    if code_lengths.number != number::PASSED {
         return code_lengths;
     }
     let records = table::types(types, tags);
-    if records.number != 0 {
+    if records.number != number::PASSED {
         return records;
     }
-    let mut starts = [0u32; 257];
-    let lengths = table::lengths(blocks, code, &mut starts);
-    if lengths.number != 0 {
+    let lengths = table::lengths(blocks, code, starts);
+    if lengths.number != number::PASSED {
         return lengths;
     }
-    let annotations = table::annotations((types.len() / table::ROW_WORDS) as u32, blocks);
-    if annotations.number != 0 {
-        return annotations;
+    table::annotations((types.len() / limit::ROW_WORDS) as u32, blocks)
+}
+
+// The check of a routine: the first no of Q1 to Q15, with its place.
+pub fn check(types: &[u32], tags: &[u32], blocks: &[u32], code: &[u32]) -> Verdict
+    ensures { λ r. ⌜ r ≡ check (now (types .entry)) (now (tags .entry)) (codeOf (now (blocks .entry)) (now (code .entry))) ⌝ }
+{
+    let mut starts = [0u32; limit::BLOCKS + 1];
+    let v = tables(types, tags, blocks, code, &mut starts);
+    if v.number != number::PASSED {
+        return v;
     }
     judge(types, tags, blocks, code, &starts)
 }

@@ -69,6 +69,6 @@ shifted-fits d f = rw (shift d f) (record { sfits = omega (arith, raised-small d
 pub shifted-back : (d : ℤ) → SFits w32 d → toZ w64 (ofZ w64 (shifted d)) ≡ pos (raised d)
 shifted-back d f = toZ-ofZ (shifted-fits d f) ∙ shift d f
 
-pub moved-raised : (x : ℕ) (d : ℤ) → SFits w32 d → (x + raised d) % 2 ^ 32 ≡ moved x d
+pub moved-raised : (x : ℕ) (d : ℤ) → SFits w32 d → (x + raised d % 2 ^ 32) % 2 ^ 32 ≡ moved x d
 moved-raised x (pos n) f = omega arith
-moved-raised x (negsuc n) f = ap (λ (k : ℕ). (x + k) % 2 ^ 32) (omega arith)
+moved-raised x (negsuc n) f = ap (λ (k : ℕ). (x + k) % 2 ^ 32) (omega (arith, f .sfits))

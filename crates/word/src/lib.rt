@@ -1,10 +1,7 @@
-// 32-bit words: sums, differences, products and moves modulo 2^32, the signed offset, and the parts of type words and instructions.
+// 32-bit words: sums, differences, products and moves modulo 2^32, the signed offset, bytes, and the parts of type words and instructions.
 ghost use mathlib.Core.Path.{_≡_};
 ghost use Prim.Native.Nat.{_/_, _<_};
-ghost use Rattle.model.specs.Word.{kindOf, recordOf, firstOf, secondOf};
-ghost use Rattle.model.specs.Word.{opcodeOf, aOf, bOf, cOf};
-ghost use Rattle.model.specs.Word.{sum, difference, product, signed, moved};
-ghost use Rattle.model.specs.Reading.{withKind};
+ghost use Rattle.model.specs.Word.{kindOf, recordOf, firstOf, secondOf, opcodeOf, aOf, bOf, cOf, sum, difference, product, signed, moved, withKind};
 
 // ---- sums, differences and products modulo 2^32
 
@@ -52,7 +49,23 @@ pub fn moved(x: u32, d: i32) -> u32
     ensures { λ r. ⌜ r ≡ moved x d ⌝ }
 {
     let up = ((d as i64) + 4294967296) as u64;
-    (((x as u64) + up) % 4294967296) as u32
+    let offset = (up % 4294967296) as u32;
+    std::num::wrapping_add_u32(x, offset)
+}
+
+// ---- bytes
+
+// A byte as a word, and as a place of an array of 256.
+pub fn wide(x: u8) -> u32
+    ensures { λ r. ⌜ (r ≡ x) × (r < 256) ⌝ }
+{
+    x as u32
+}
+
+pub fn index(x: u8) -> usize
+    ensures { λ r. ⌜ (r ≡ x) × (r < 256) ⌝ }
+{
+    x as usize
 }
 
 // ---- parts of a type word

@@ -2,10 +2,12 @@
 // words and docs/REFUSALS.md are both made from here.
 mod rows;
 
+use model::number;
+
 // ---- the rows
 
 // The last number of a question; the first is 1.
-pub const LAST: u32 = 22;
+pub const LAST: u32 = number::CODE_INDEX;
 // A run's 0; a check's is row 0.
 pub const HALTED: u32 = 100;
 // A line that is no request.
@@ -32,31 +34,40 @@ pub struct Asked {
 }
 
 fn cell(out: &mut [u8; 65536], n: usize, row: u32, a: Asked) -> usize {
-    if row == 0 {
+    if row == number::PASSED {
         return rows::outcomes(out, n, row, a);
     }
-    if row < 4 {
+    if row <= number::FIELD_COUNT {
+        return rows::lengths(out, n, row, a);
+    }
+    if row <= number::TAG {
         return rows::types(out, n, row, a);
     }
-    if row < 7 {
-        return rows::tables(out, n, row, a);
+    if row <= number::ANNOTATION {
+        return rows::blocks(out, n, row, a);
     }
-    if row < 10 {
+    if row <= number::TARGET {
         return rows::forms(out, n, row, a);
     }
-    if row < 13 {
+    if row <= number::OTHER_RECORD {
         return rows::accesses(out, n, row, a);
     }
-    if row < 16 {
+    if row <= number::UNTAKEN_EDGE {
         return rows::ends(out, n, row, a);
     }
-    if row < 19 {
+    if row <= number::ADDRESS {
         return rows::runs(out, n, row, a);
     }
-    if row <= LAST {
-        return rows::states(out, n, row, a);
+    if row <= number::FIELD {
+        return rows::records(out, n, row, a);
     }
-    rows::outcomes(out, n, row, a)
+    if row <= LAST {
+        return rows::registers(out, n, row, a);
+    }
+    if row == number::PAUSED {
+        return rows::outcomes(out, n, row, a);
+    }
+    rows::others(out, n, row, a)
 }
 
 // A column of a row; nothing for a number that is no answer.
@@ -72,13 +83,13 @@ pub fn column(out: &mut [u8; 65536], n: usize, row: u32, column: u32) -> usize {
 
 // The place that was answered; nothing for the rows that answer 0, 0 whatever the cause.
 fn place(out: &mut [u8; 65536], n: usize, row: u32, first: u64, second: u64) -> usize {
-    if row == 0 {
+    if row == number::PASSED {
         return n;
     }
-    if row == 16 {
+    if row == number::START_BLOCK {
         return n;
     }
-    if row == 17 {
+    if row == number::MEMORY_LENGTH {
         return n;
     }
     let a = Asked {

@@ -1,5 +1,6 @@
 // The rows. A row is its columns in order, with bars between them: name, meaning, usual cause, remedy, place.
 use super::Asked;
+use model::number;
 
 fn letter(out: &mut [u8; 65536], n: usize, a: Asked, byte: u8) -> usize {
     if a.answered {
@@ -33,9 +34,9 @@ fn column(out: &mut [u8; 65536], n: usize, a: Asked, row: &[u8]) -> usize {
     at
 }
 
-// The lengths of tables, and record types.
-pub fn types(out: &mut [u8; 65536], n: usize, row: u32, a: Asked) -> usize {
-    if row == 1 {
+// The length of a table, and field counts.
+pub fn lengths(out: &mut [u8; 65536], n: usize, row: u32, a: Asked) -> usize {
+    if row == number::TABLE_LENGTH {
         return column(
             out,
             n,
@@ -48,7 +49,7 @@ pub fn types(out: &mut [u8; 65536], n: usize, row: u32, a: Asked) -> usize {
               table A (0 types, 1 tags, 2 blocks, 3 code)",
         );
     }
-    if row == 2 {
+    if row == number::FIELD_COUNT {
         return column(
             out,
             n,
@@ -60,7 +61,12 @@ pub fn types(out: &mut [u8; 65536], n: usize, row: u32, a: Asked) -> usize {
               type row A",
         );
     }
-    if row == 3 {
+    n
+}
+
+// The type words of records, and tags.
+pub fn types(out: &mut [u8; 65536], n: usize, row: u32, a: Asked) -> usize {
+    if row == number::FIELD_TYPE {
         return column(
             out,
             n,
@@ -74,12 +80,7 @@ pub fn types(out: &mut [u8; 65536], n: usize, row: u32, a: Asked) -> usize {
               type row A",
         );
     }
-    n
-}
-
-// Tags, blocks, annotations.
-pub fn tables(out: &mut [u8; 65536], n: usize, row: u32, a: Asked) -> usize {
-    if row == 4 {
+    if row == number::TAG {
         return column(
             out,
             n,
@@ -91,7 +92,12 @@ pub fn tables(out: &mut [u8; 65536], n: usize, row: u32, a: Asked) -> usize {
               tag A",
         );
     }
-    if row == 5 {
+    n
+}
+
+// Blocks: lengths and annotations.
+pub fn blocks(out: &mut [u8; 65536], n: usize, row: u32, a: Asked) -> usize {
+    if row == number::BLOCK_LENGTH {
         return column(
             out,
             n,
@@ -104,7 +110,7 @@ pub fn tables(out: &mut [u8; 65536], n: usize, row: u32, a: Asked) -> usize {
               block row A",
         );
     }
-    if row == 6 {
+    if row == number::ANNOTATION {
         return column(
             out,
             n,
@@ -123,7 +129,7 @@ pub fn tables(out: &mut [u8; 65536], n: usize, row: u32, a: Asked) -> usize {
 
 // The form of an instruction.
 pub fn forms(out: &mut [u8; 65536], n: usize, row: u32, a: Asked) -> usize {
-    if row == 7 {
+    if row == number::INSTRUCTION {
         return column(
             out,
             n,
@@ -136,7 +142,7 @@ pub fn forms(out: &mut [u8; 65536], n: usize, row: u32, a: Asked) -> usize {
               block A, code index B",
         );
     }
-    if row == 8 {
+    if row == number::BLOCK_END {
         return column(
             out,
             n,
@@ -148,7 +154,7 @@ pub fn forms(out: &mut [u8; 65536], n: usize, row: u32, a: Asked) -> usize {
               block A, code index B",
         );
     }
-    if row == 9 {
+    if row == number::TARGET {
         return column(
             out,
             n,
@@ -165,7 +171,7 @@ pub fn forms(out: &mut [u8; 65536], n: usize, row: u32, a: Asked) -> usize {
 
 // Loads and stores.
 pub fn accesses(out: &mut [u8; 65536], n: usize, row: u32, a: Asked) -> usize {
-    if row == 10 {
+    if row == number::REFERENCE {
         return column(
             out,
             n,
@@ -177,7 +183,7 @@ pub fn accesses(out: &mut [u8; 65536], n: usize, row: u32, a: Asked) -> usize {
               block A, code index B",
         );
     }
-    if row == 11 {
+    if row == number::OFFSET {
         return column(
             out,
             n,
@@ -189,7 +195,7 @@ pub fn accesses(out: &mut [u8; 65536], n: usize, row: u32, a: Asked) -> usize {
               block A, code index B",
         );
     }
-    if row == 12 {
+    if row == number::OTHER_RECORD {
         return column(
             out,
             n,
@@ -206,7 +212,7 @@ pub fn accesses(out: &mut [u8; 65536], n: usize, row: u32, a: Asked) -> usize {
 
 // The end of a block.
 pub fn ends(out: &mut [u8; 65536], n: usize, row: u32, a: Asked) -> usize {
-    if row == 13 {
+    if row == number::OPEN_RECORD {
         return column(
             out,
             n,
@@ -218,7 +224,7 @@ pub fn ends(out: &mut [u8; 65536], n: usize, row: u32, a: Asked) -> usize {
               block A, code index B",
         );
     }
-    if row == 14 {
+    if row == number::TAKEN_EDGE {
         return column(
             out,
             n,
@@ -230,7 +236,7 @@ pub fn ends(out: &mut [u8; 65536], n: usize, row: u32, a: Asked) -> usize {
               block A, code index B",
         );
     }
-    if row == 15 {
+    if row == number::UNTAKEN_EDGE {
         return column(
             out,
             n,
@@ -247,7 +253,7 @@ pub fn ends(out: &mut [u8; 65536], n: usize, row: u32, a: Asked) -> usize {
 
 // Where a run starts, what it may reach.
 pub fn runs(out: &mut [u8; 65536], n: usize, row: u32, a: Asked) -> usize {
-    if row == 16 {
+    if row == number::START_BLOCK {
         return column(
             out,
             n,
@@ -259,7 +265,7 @@ pub fn runs(out: &mut [u8; 65536], n: usize, row: u32, a: Asked) -> usize {
               0, 0",
         );
     }
-    if row == 17 {
+    if row == number::MEMORY_LENGTH {
         return column(
             out,
             n,
@@ -271,7 +277,7 @@ pub fn runs(out: &mut [u8; 65536], n: usize, row: u32, a: Asked) -> usize {
               0, 0",
         );
     }
-    if row == 18 {
+    if row == number::ADDRESS {
         return column(
             out,
             n,
@@ -286,9 +292,9 @@ pub fn runs(out: &mut [u8; 65536], n: usize, row: u32, a: Asked) -> usize {
     n
 }
 
-// Memory and registers; the code index.
-pub fn states(out: &mut [u8; 65536], n: usize, row: u32, a: Asked) -> usize {
-    if row == 19 {
+// Allocations, and the fields of records.
+pub fn records(out: &mut [u8; 65536], n: usize, row: u32, a: Asked) -> usize {
+    if row == number::ALLOCATION {
         return column(
             out,
             n,
@@ -301,7 +307,7 @@ pub fn states(out: &mut [u8; 65536], n: usize, row: u32, a: Asked) -> usize {
               allocation row A",
         );
     }
-    if row == 20 {
+    if row == number::FIELD {
         return column(
             out,
             n,
@@ -313,7 +319,12 @@ pub fn states(out: &mut [u8; 65536], n: usize, row: u32, a: Asked) -> usize {
               allocation row A, field B",
         );
     }
-    if row == 21 {
+    n
+}
+
+// Registers; the code index.
+pub fn registers(out: &mut [u8; 65536], n: usize, row: u32, a: Asked) -> usize {
+    if row == number::REGISTER {
         return column(
             out,
             n,
@@ -325,7 +336,7 @@ pub fn states(out: &mut [u8; 65536], n: usize, row: u32, a: Asked) -> usize {
               register A",
         );
     }
-    if row == 22 {
+    if row == number::CODE_INDEX {
         return column(
             out,
             n,
@@ -340,9 +351,9 @@ pub fn states(out: &mut [u8; 65536], n: usize, row: u32, a: Asked) -> usize {
     n
 }
 
-// Where no question has a no, and a line that is no request.
+// Where no question has a no.
 pub fn outcomes(out: &mut [u8; 65536], n: usize, row: u32, a: Asked) -> usize {
-    if row == 0 {
+    if row == number::PASSED {
         return column(
             out,
             n,
@@ -354,7 +365,7 @@ pub fn outcomes(out: &mut [u8; 65536], n: usize, row: u32, a: Asked) -> usize {
               0, 0",
         );
     }
-    if row == 40 {
+    if row == number::PAUSED {
         return column(
             out,
             n,
@@ -366,6 +377,11 @@ pub fn outcomes(out: &mut [u8; 65536], n: usize, row: u32, a: Asked) -> usize {
               block A, code index B",
         );
     }
+    n
+}
+
+// A run that halted, and a line that is no request.
+pub fn others(out: &mut [u8; 65536], n: usize, row: u32, a: Asked) -> usize {
     if row == super::HALTED {
         return column(
             out,

@@ -1,7 +1,7 @@
 -- `branch::next_kind` meets its contract.
 use native.Mathlib.Omega.{arith}
 use borrow.Author.Needs.{needs}
-use Rattle.model.proofs.Logic.{told-no, told-yes}
+use Rattle.model.proofs.Logic.{test-false, test-true}
 use Rattle.branch.proofs.Ends.{next-other, next-not, next-is}
 use Rattle.branch.proofs.next_kind.Statement.{statement}
 use Rattle.branch.proofs.next_kind.Tie as tie
@@ -30,7 +30,7 @@ known-equal-requires c κs = search needs
 returns-2 : tie.Need-returns-2
 returns-2 c =
     let k = c .before in
-    next-not _ _ _ _ _ _ _ _ (kind k .kind .ensures .0) (omega arith) _ (k .before .dependency .ensures) (told-no (k .known-equal .ensures) (c .if2 .taken))
+    next-not _ _ _ _ _ _ _ _ (kind k .kind .ensures .0) (omega arith) _ (k .before .dependency .ensures) (test-false (k .known-equal .ensures) (c .if2 .taken))
 
 add-with-kind : tie.Need-add-with-kind
 add-with-kind c = search needs
@@ -42,7 +42,7 @@ returns-3 : tie.Need-returns-3
 returns-3 c =
     let e = c .before in
     let k = e .before in
-    next-is _ _ _ _ _ _ _ _ (kind k .kind .ensures .0) (omega arith) _ (k .before .dependency .ensures) (told-yes (k .known-equal .ensures) (e .if2 .left)) _
+    next-is _ _ _ _ _ _ _ _ (kind k .kind .ensures .0) (omega arith) _ (k .before .dependency .ensures) (test-true (k .known-equal .ensures) (e .if2 .left)) _
     (c .with-kind .ensures)
 
 pub next-kind-spec : {M : Type 1} → statement M

@@ -12,7 +12,7 @@ use Rattle.model.specs.Question.{_and_}
 use Rattle.model.specs.Word.{recordOf}
 use Rattle.model.specs.Table.{tablesOf}
 use Rattle.model.specs.Reading.{Values, fits}
-use Rattle.table.proofs.Questions.{told-no, told-yes}
+use Rattle.table.proofs.Questions.{test-false, test-true}
 use Rattle.fits.specs.Numbers.{valuesOf, meant}
 use Rattle.fits.proofs.Answers.{firsts, seconds, known-of, span-below, span-ranked}
 use borrow.Author.Needs.{needs}
@@ -91,7 +91,7 @@ first-told c =
 first-passed : (types tags : List ℕ) (c : tie.Else3) → fit types tags (start-2 (frame (c .before))) ≡ second (start-2 (frame (c .before)))
 unfolding _and_
 first-passed types tags c =
-    record-passed types tags (frame (c .before) .before) ∙ rw (told-yes (first-told (c .before)) (c .if3 .left))
+    record-passed types tags (frame (c .before) .before) ∙ rw (test-true (first-told (c .before)) (c .if3 .left))
 
 -- ---- the needs
 
@@ -145,7 +145,7 @@ known-equal-requires c κs = search needs
 
 returns-3 : tie.Need-returns-3
 unfolding _and_
-returns-3 c = λ types tags. sym (record-passed types tags (frame (c .before) .before) ∙ rw (told-no (first-told (c .before)) (c .if3 .taken)))
+returns-3 c = λ types tags. sym (record-passed types tags (frame (c .before) .before) ∙ rw (test-false (first-told (c .before)) (c .if3 .taken)))
 
 second-dependency-requires : tie.Need-second-dependency-requires
 second-dependency-requires c κs = search needs

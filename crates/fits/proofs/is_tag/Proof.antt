@@ -7,7 +7,7 @@ use Rattle.fits.proofs.is_tag.Statement.{statement}
 use Rattle.fits.proofs.is_tag.Tie as tie
 
 returns : tie.Need-returns
-returns c = λ types. tag-none types (now (c .before .args .tags)) (c .before .args .n) (c .before .args .t) (omega arith)
+returns c = λ types. tag-none types (now (c .before .args .tags)) (c .before .args .beyond) (c .before .args .n) (c .before .args .t) (omega arith)
 
 sub-k : tie.Need-sub-k
 sub-k c = search needs
@@ -17,7 +17,7 @@ cast-k c = search needs
 
 returns-2 : tie.Need-returns-2
 returns-2 c =
-    λ types. tag-past types (now (c .before .before .args .tags)) (c .before .before .args .n) (c .before .before .args .t)
+    λ types. tag-past types (now (c .before .before .args .tags)) _ (c .before .before .args .n) (c .before .before .args .t)
     (λ h. omega arith) (omega arith)
 
 mul-result : tie.Need-mul-result
@@ -28,7 +28,7 @@ shared-slice-read-result c = search needs
 
 returns-3 : tie.Need-returns-3
 returns-3 c =
-    λ types. tag-is types (now (c .before .before .before .args .tags)) (c .before .before .before .args .n)
+    λ types. tag-is types (now (c .before .before .before .args .tags)) (c .before .before .before .args .beyond) (c .before .before .before .args .n)
     (c .before .before .before .args .t) (λ h. omega arith) (omega arith)
 
 pub is-tag-spec : {M : Type 1} → statement M

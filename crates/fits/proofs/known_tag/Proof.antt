@@ -5,7 +5,7 @@ use mathlib.Core.List.{List}
 use Prim.Native.Nat.{ℕ}
 use denote.Ref.{now}
 use Rattle.model.specs.Table.{tablesOf}
-use Rattle.model.specs.Reading.{tagOf, knownTag}
+use Rattle.fits.specs.Numbers.{servesAsTag}
 use Rattle.fits.proofs.Answers.{known-own, known-tested}
 use borrow.Author.Needs.{needs}
 use Rattle.fits.proofs.known_tag.Statement.{statement}
@@ -13,7 +13,8 @@ use Rattle.fits.proofs.known_tag.Tie as tie
 
 -- the test that a constant has to pass
 abbrev serves : List ℕ → tie.After-constant-of → ℕ → Bool
-serves types c = tagOf (tablesOf types (now (c .before .before .args .tags))) (c .before .before .args .t)
+serves types c =
+    servesAsTag (c .before .before .args .beyond) (tablesOf types (now (c .before .before .args .tags))) (c .before .before .args .t)
 
 constant-of-requires : tie.Need-constant-of-requires
 constant-of-requires c κs = search needs
@@ -22,7 +23,6 @@ is-tag-requires : tie.Need-is-tag-requires
 is-tag-requires c κs = search needs
 
 returns : tie.Need-returns
-unfolding knownTag
 returns c =
     let own = c .before .before in
     λ types. known-own _ _ _ _ _ _ (own .constant-of .result) (own .constant-of .ensures) (serves types own)
@@ -35,7 +35,6 @@ is-tag-requires-2 : tie.Need-is-tag-requires-2
 is-tag-requires-2 c κs = search needs
 
 returns-2 : tie.Need-returns-2
-unfolding knownTag
 returns-2 c =
     let tested = c .before in
     let past = tested .before in

@@ -6,7 +6,7 @@ use native.Mathlib.Omega.{arith}
 use Rattle.model.specs.Question.{every}
 use Rattle.model.specs.Table.{tablesOf}
 use Rattle.model.specs.Reading.{rowFits}
-use Rattle.table.proofs.Questions.{told-no, told-yes, every-on, every-stops, every-end}
+use Rattle.table.proofs.Questions.{test-false, test-true, every-on, every-stops, every-end}
 use Rattle.fits.specs.Numbers.{valuesOf, placeFits}
 use Rattle.fits.proofs.Answers.{row-is}
 use Rattle.fits.proofs.row_fits.Statement.{statement}
@@ -30,7 +30,7 @@ field-fits-requires c κs = omega arith
 returns : tie.Need-returns Inv-loop μ-loop
 returns c =
     let l = c .before .before .before .loop in
-    λ types. every-stops _ _ (l .i) _ (l .inv .0 types) (omega arith) (told-no (c .before .field-fits .ensures types)
+    λ types. every-stops _ _ (l .i) _ (l .inv .0 types) (omega arith) (test-false (c .before .field-fits .ensures types)
     (c .if1 .taken))
 
 add-i : tie.Need-add-i Inv-loop μ-loop
@@ -42,7 +42,7 @@ loop-less c = omega arith
 loop-again : tie.Need-loop-again Inv-loop μ-loop
 loop-again c =
     let l = c .before .before .before .loop in (
-      λ types. every-on _ _ (l .i) _ (l .inv .0 types) (omega arith) (told-yes (c .before .field-fits .ensures types)
+      λ types. every-on _ _ (l .i) _ (l .inv .0 types) (omega arith) (test-true (c .before .field-fits .ensures types)
           (c .if1 .left)),
       omega arith,
     )

@@ -1,7 +1,8 @@
 -- `layout::memory_length` meets its contract.
 use mathlib.Core.Path.{_∙_}
 use native.Mathlib.Omega.{arith}
-use Rattle.layout.proofs.Layouts.{memory-none, memory-long, memory-fits}
+use Rattle.model.specs.Table.{memoryLengthAsk}
+use Rattle.table.proofs.Questions.{too-low, too-high, in-bounds, ask-no, asked-yes}
 use borrow.Author.Needs.{needs}
 use Rattle.layout.proofs.memory_length.Statement.{statement}
 use Rattle.layout.proofs.memory_length.Tie as tie
@@ -10,19 +11,22 @@ refused-requires : tie.Need-refused-requires
 refused-requires c κs = search needs
 
 returns : tie.Need-returns
-returns c = c .refused .ensures ∙ memory-none _ (omega arith)
+unfolding memoryLengthAsk
+returns c = c .refused .ensures ∙ ask-no _ _ _ (too-low 1 16384 (c .before .before .args .n) (omega arith))
 
 refused-requires-2 : tie.Need-refused-requires-2
 refused-requires-2 c κs = search needs
 
 returns-2 : tie.Need-returns-2
-returns-2 c = c .refused2 .ensures ∙ memory-long _ (omega arith) (omega arith)
+unfolding memoryLengthAsk
+returns-2 c = c .refused2 .ensures ∙ ask-no _ _ _ (too-high 1 16384 (c .before .before .before .args .n) (omega arith) (omega arith))
 
 passed-requires : tie.Need-passed-requires
 passed-requires c κs = search needs
 
 returns-3 : tie.Need-returns-3
-returns-3 c = c .passed .ensures ∙ memory-fits _ (omega arith) (omega arith)
+unfolding memoryLengthAsk
+returns-3 c = c .passed .ensures ∙ asked-yes _ _ (in-bounds 1 16384 (c .before .before .before .args .n) (omega arith) (omega arith))
 
 pub memory-length-spec : {M : Type 1} → statement M
 memory-length-spec =

@@ -1,27 +1,40 @@
 -- `layout::rows` meets its contract. The invariant: the rows from k on come to what all come to.
-use mathlib.Core.Path.{_≡_, refl, _∙_}
+use mathlib.Core.Path.{_∙_}
 use mathlib.Core.List.{List, []}
-use Prim.Native.Nat.{ℕ, _-_, _*_, _/_, _+_, _≤_}
+use Prim.Native.Nat.{ℕ, _-_, _/_}
 use native.Mathlib.Omega.{arith}
 use denote.Ref.{now}
-use lib.ListN.{length, drop}
-use Rattle.model.specs.Table.{tablesOf}
-use Rattle.model.specs.Allocation.{rowsAsk}
-use Rattle.table.proofs.Questions.{told-no, told-yes}
-use Rattle.layout.proofs.Layouts.{laid-exists, rows-on, rows-stop, rows-end}
+use lib.ListN.{length}
+use Rattle.table.proofs.Questions.{test-false, test-true}
+use Rattle.layout.proofs.Layouts.{RowAt, laid-exists, AllocationsLeft, allocations-begin, row-laid, row-not-laid, allocations-end}
 use Rattle.layout.proofs.rows.Statement.{statement}
 use Rattle.layout.proofs.rows.Tie as tie
 
 abbrev Inv-loop : tie.InvT-loop
-Inv-loop types allocations top count low₀ k₀ low k =
-    ((tags : List ℕ) → rowsAsk (tablesOf types tags) top allocations 0 1 ≡ rowsAsk (tablesOf types tags) top (drop (k * 2) allocations) k low)
-    × (k ≤ length allocations / 2)
+Inv-loop types allocations top count low₀ k₀ low k = AllocationsLeft types allocations top k low
 
 abbrev μ-loop : tie.MeasureT-loop
 μ-loop types allocations top count low₀ k₀ low k = length allocations / 2 - k
 
+-- ---- where the row at hand has been judged: the loop it stands in, and the row
+
+abbrev allocations : tie.At-loop Inv-loop μ-loop → List ℕ
+allocations c = now (c .before .before .before .args .allocations)
+
+abbrev started : tie.After-is-laid Inv-loop μ-loop → tie.After-start Inv-loop μ-loop
+started c = c .before .before
+
+abbrev round : tie.After-is-laid Inv-loop μ-loop → tie.At-loop Inv-loop μ-loop
+round c = started c .before .before
+
+row : (c : tie.After-is-laid Inv-loop μ-loop)
+    → RowAt (allocations (round c)) (round c .loop .k) (started c .start .result) (c .before .record-type .result)
+row c = record { whole = omega arith; start = started c .start .ensures; typed = c .before .record-type .ensures }
+
+-- ---- the needs
+
 loop-holds : tie.Need-loop-holds Inv-loop μ-loop
-loop-holds c = (λ tags. refl, omega arith)
+loop-holds c = allocations-begin _ _ _
 
 start-requires : tie.Need-start-requires Inv-loop μ-loop
 start-requires c κs = omega arith
@@ -38,11 +51,7 @@ refused-requires c κs = omega arith
 returns : tie.Need-returns Inv-loop μ-loop
 returns c = λ tags.
     let b = c .before .before in
-    let l = b .before .before .before .before .loop in
-    let s = b .before .before .before .before .before .before .before in
-    c .refused .ensures
-    ∙ rows-stop _ tags (now (s .args .allocations)) _ (l .k) _ _ (l .inv .0 tags) (omega arith) _ _ (b .before .before .start .ensures) (b .before .record-type .ensures)
-    (told-no (b .is-laid .ensures tags) (c .before .if1 .taken))
+    c .refused .ensures ∙ row-not-laid (round b .loop .inv) (row b) tags (test-false (b .is-laid .ensures tags) (c .before .if1 .taken))
 
 cast-low : tie.Need-cast-low Inv-loop μ-loop
 cast-low c = omega arith
@@ -51,7 +60,7 @@ cast-head : tie.Need-cast-head Inv-loop μ-loop
 cast-head c = omega arith
 
 head-requires : tie.Need-head-requires Inv-loop μ-loop
-head-requires c κs = omega (arith, laid-exists _ [] _ _ _ _ (told-yes (c .before .is-laid .ensures []) (c .if1 .left)))
+head-requires c κs = omega (arith, laid-exists _ [] _ _ _ _ (test-true (c .before .is-laid .ensures []) (c .if1 .left)))
 
 cast-low-2 : tie.Need-cast-low-2 Inv-loop μ-loop
 cast-low-2 c = omega arith
@@ -68,21 +77,13 @@ loop-less c = omega arith
 loop-again : tie.Need-loop-again Inv-loop μ-loop
 loop-again c =
     let b = c .before .before in
-    let l = b .before .before .before .before .loop in
-    let s = c .before .before .before .before .before .before .before .before .before in (
-      λ tags. rows-on _ tags (now (s .args .allocations)) _ (l .k) _ _ (l .inv .0 tags) (omega arith) _ _ (b .before .before .start .ensures) (b .before .record-type .ensures)
-          (told-yes (b .is-laid .ensures tags) (c .before .if1 .left)) _ (c .head .ensures),
-      omega arith,
-    )
+    row-laid (round b .loop .inv) (row b) _ (c .head .ensures) (λ tags. test-true (b .is-laid .ensures tags) (c .before .if1 .left))
 
 passed-requires : tie.Need-passed-requires Inv-loop μ-loop
 passed-requires c κs = tt
 
 returns-2 : tie.Need-returns-2 Inv-loop μ-loop
-returns-2 c = λ tags.
-    let l = c .before .before .loop in
-    let s = c .before .before .before .before .before in
-    c .passed .ensures ∙ rows-end _ tags (now (s .args .allocations)) _ (l .k) _ _ (l .inv .0 tags) (omega arith)
+returns-2 c = λ tags. c .passed .ensures ∙ allocations-end (c .before .before .loop .inv) tags (omega arith)
 
 pub rows-spec : {M : Type 1} → statement M
 rows-spec =

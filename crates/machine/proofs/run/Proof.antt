@@ -7,7 +7,8 @@ use lib.ListN.{length}
 use Rattle.model.specs.declared.Verdict.{Verdict}
 use Rattle.model.specs.declared.RunAnswer.{RunAnswer}
 use Rattle.model.specs.Question.{verdictOf}
-use Rattle.model.specs.Machine.{Run, runAsk, run, returned}
+use Rattle.model.specs.Table.{Code, codeOf}
+use Rattle.model.specs.Machine.{Run, runAsk, run, returned, Ready, ready}
 use Rattle.table.proofs.Questions.{no-refusal, after-yes, at-no, at-last}
 use Rattle.table.proofs.Laws.{CodeLengths, code-lengths-passed, start-no, start-yes}
 use Rattle.machine.proofs.Runs.{ran, RunPast, run-begins, run-refused, run-opens}
@@ -29,17 +30,23 @@ past-1 c = c .before .before .before .before
 abbrev past-3 : tie.Else4 → tie.Else3
 past-3 c = c .before .before .before
 
+abbrev tables : tie.Start → Code
+tables s = codeOf (now (s .args .blocks)) (now (s .args .code))
+
+abbrev goes-with : tie.Start → Ready
+goes-with s = ready (s .args .block) (s .args .registers)
+
 abbrev Past : tie.Start → ℕ → Type 0
-Past s = RunPast (now (s .args .blocks)) (now (s .args .code)) (now (s .args .memory)) (s .args .block)
+Past s = RunPast (tables s) (now (s .args .memory)) (goes-with s)
 
 left-1 : (c : tie.Else1) → Past (start-1 c) 1
-left-1 c = after-yes (run-begins _ _ _ _) (c .before .before .code-lengths .ensures) (c .if1 .left)
+left-1 c = after-yes (run-begins _ _ (goes-with (start-1 c))) (c .before .before .code-lengths .ensures) (c .if1 .left)
 
 left-2 : (c : tie.Else2) → Past (start-1 (past-1 c)) 2
 left-2 c = after-yes (left-1 (past-1 c)) (c .before .before .lengths .ensures .0) (c .if2 .left)
 
 left-3 : (c : tie.Else3) → Past (start-1 (past-1 (c .before))) 3
-left-3 c = after-yes (left-2 (c .before)) (start-yes _ _ _ (omega arith)) refl
+left-3 c = after-yes (left-2 (c .before)) (start-yes _ _ (omega arith)) refl
 
 -- ---- what the lengths are where they passed
 
@@ -49,16 +56,16 @@ code-lengths c = code-lengths-passed _ _ _ (c .before .before .code-lengths .ens
 -- ---- a run that one of them refuses
 
 abbrev whole : tie.Start → Run
-whole s = run (now (s .args .blocks)) (now (s .args .code)) (now (s .args .memory)) (s .args .block) (s .args .registers) (s .args .budget)
+whole s = run (tables s) (now (s .args .memory)) (goes-with s) (s .args .budget)
 
 abbrev opening : tie.Start → Verdict
-opening s = verdictOf (runAsk (now (s .args .blocks)) (now (s .args .code)) (now (s .args .memory)) (s .args .block))
+opening s = verdictOf (runAsk (tables s) (now (s .args .memory)) (s .args .block))
 
 refuses : (s : tie.Start) (v : Verdict) (r : RunAnswer)
     → r ≡ returned (ran (v .number) (v .first) (v .second) 0 (s .args .registers) (now (s .args .memory)))
     → ((v .number ≡ 0 → ⊥) → v ≡ opening s) → (v .number ≡ 0 → ⊥)
     → (r ≡ returned (whole s)) × (now (s .args .memory) ≡ whole s .memory)
-refuses s v r er e n = let w = run-refused _ _ _ _ _ _ v (e n) n in (er ∙ ap returned w, ap (λ (a : Run). a .memory) w)
+refuses s v r er e n = let w = run-refused _ _ (goes-with s) _ v (e n) n in (er ∙ ap returned w, ap (λ (a : Run). a .memory) w)
 
 -- ---- the needs
 
@@ -71,7 +78,7 @@ unopened-requires c κs = tt
 returns : tie.Need-returns
 returns c =
     let a = c .before .before .before in
-    refuses (start a) _ _ (c .unopened .ensures) (at-no (run-begins _ _ _ _) (a .code-lengths .ensures)) (c .before .if1 .taken)
+    refuses (start a) _ _ (c .unopened .ensures) (at-no (run-begins _ _ (goes-with (start a))) (a .code-lengths .ensures)) (c .before .if1 .taken)
 
 lengths-requires : tie.Need-lengths-requires
 lengths-requires c κs = omega (arith, code-lengths (c .before))
@@ -95,7 +102,7 @@ returns-3 : tie.Need-returns-3
 returns-3 c =
     let a = c .before .before .before in
     let o = c .before .refused .ensures in
-    refuses (start-1 (past-1 a)) _ _ (c .unopened3 .ensures) (at-no (left-2 a) (o ∙ start-no _ _ _ (omega arith)))
+    refuses (start-1 (past-1 a)) _ _ (c .unopened3 .ensures) (at-no (left-2 a) (o ∙ start-no _ _ (omega arith)))
     (λ z. omega (arith, ap (λ (v : Verdict). v .number) o))
 
 memory-length-requires : tie.Need-memory-length-requires
@@ -115,7 +122,13 @@ run-blocks-requires c κs =
     let a = past-3 (c .before .before) .before in
     let l = a .before .before .lengths .ensures in
     let b = code-lengths (past-1 a) in
-    (no-refusal _ _ (l .0) (a .if2 .left), b .most, b .long, omega arith, λ k h. l .1 refl (a .if2 .left) k h)
+    record {
+      lengths = no-refusal _ _ (l .0) (a .if2 .left);
+      few = b .most;
+      short = b .long;
+      exists = omega arith;
+      filled = λ k h. l .1 refl (a .if2 .left) k h;
+    }
 
 same-length : tie.Need-same-length
 same-length c = search needs
@@ -125,7 +138,7 @@ returns-5 c =
     let d = c .before .before in
     let a = d .before .before .before in
     let e = at-last (left-3 (past-3 a)) (a .before .before .memory-length .ensures) in
-    let o = run-opens _ _ _ _ _ _ _ e (a .if4 .left) in
+    let o = run-opens _ _ (goes-with (start-1 (past-1 (past-3 a .before)))) _ _ e (a .if4 .left) in
     (d .run-blocks .ensures .0 ∙ ap returned o, d .run-blocks .ensures .1 ∙ ap (λ (a : Run). a .memory) o)
 
 pub run-spec : {M : Type 1} → statement M

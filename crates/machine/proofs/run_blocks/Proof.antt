@@ -7,21 +7,22 @@ use native.Mathlib.Nat.{sub-zero}
 use native.Mathlib.Omega.{arith}
 use denote.Ref.{now}
 use lib.ListN.{length, getD, take, drop}
-use Rattle.model.specs.Table.{Routine, routineOf, startOf, headOf, rows}
+use Rattle.model.specs.Table.{Routine, routineOf, startOf, headOf, rows, Code, codeOf}
+use Rattle.model.specs.Machine.{State, steps, Run, returned, ready}
 use Rattle.model.specs.declared.RunAnswer.{RunAnswer}
-use Rattle.model.specs.Machine.{State, steps, Run, returned}
 use Rattle.instruction.specs.Rows.{opcodeRows}
 use Rattle.table.proofs.Laws.{start-more, routine-count, routine-long, routine-start}
 use Rattle.step.specs.Answer.{at, exitOf}
 use Rattle.machine.specs.Run.{Covers, ranOf}
 use borrow.Author.Needs.{needs}
-use Rattle.machine.proofs.Runs.{Leads, bounds, covers, leads-on, uncounted, rest, run-on, run-halts, run-faults, run-pauses}
+use Rattle.machine.proofs.Runs.{GoesTo, bounds, covers, leads-on, uncounted, rest, run-on, run-halts, run-faults, run-pauses}
 use Rattle.machine.proofs.run_blocks.Statement.{statement}
 use Rattle.machine.proofs.run_blocks.Tie as tie
 
 abbrev Inv-loop : tie.InvT-loop
 Inv-loop blocks code starts memory₀ block budget table count b₀ first₀ current₀ finished₀ memory b first current finished =
-    (uncounted (ranOf blocks code memory₀ block current₀ budget) ≡ rest (routineOf blocks code) (budget - finished) b current memory finished)
+    (uncounted (ranOf (codeOf blocks code) memory₀ (ready block current₀) budget)
+    ≡ rest (routineOf (codeOf blocks code)) (budget - finished) b current memory finished)
     × (finished ≤ budget)
     × (b < rows blocks)
     × (length memory ≡ length memory₀)
@@ -39,8 +40,8 @@ record Begun (s : tie.Start Inv-loop μ-loop) (k : ℕ) : Type 0 where
 
 begins : (s : tie.Start Inv-loop μ-loop) (k : ℕ) → k < rows (now (s .args .blocks)) → Begun s k
 begins s k h =
-    let (l, m) = bounds (now (s .args .blocks)) (now (s .args .code)) (s .pre .0) k h in
-    record { starts-there = s .pre .4 k (omega arith); small = omega (arith, m, s .pre .2) }
+    let (l, m) = bounds (codeOf (now (s .args .blocks)) (now (s .args .code))) (s .pre .lengths) k h in
+    record { starts-there = s .pre .filled k (omega arith); small = omega (arith, m, s .pre .short) }
 
 -- ---- in the loop: what is lent, the block and its code
 
@@ -56,11 +57,14 @@ code c = now (start c .args .code)
 abbrev starts : tie.At-loop Inv-loop μ-loop → List ℕ
 starts c = now (start c .args .starts)
 
+abbrev tables : tie.At-loop Inv-loop μ-loop → Code
+tables c = codeOf (blocks c) (code c)
+
 abbrev routine : tie.At-loop Inv-loop μ-loop → Routine
-routine c = routineOf (blocks c) (code c)
+routine c = routineOf (tables c)
 
 starts-at : (c : tie.At-loop Inv-loop μ-loop) (k : ℕ) → k ≤ rows (blocks c) → getD (starts c) k 0 ≡ startOf (blocks c) k
-starts-at c = start c .pre .4
+starts-at c = start c .pre .filled
 
 abbrev block : tie.In-loop Inv-loop μ-loop → ℕ
 block c = c .before .loop .b
@@ -74,7 +78,7 @@ part c = take (getD (starts (c .before)) (block c + 1) 0 - first c) (drop (first
 covered : (c : tie.In-loop Inv-loop μ-loop) → Covers (routine (c .before)) (block c) (part c) (length (code (c .before)) - first c)
 covered c =
     let l = c .before in
-    covers _ _ (start l .pre .0) _ _ _ (omega arith) (l .loop .inv .5) (starts-at l (block c + 1) (omega arith))
+    covers (tables l) (start l .pre .lengths) _ _ _ (omega arith) (l .loop .inv .5) (starts-at l (block c + 1) (omega arith))
 
 -- where the block starts and ends, and how long it is
 record Placed (c : tie.In-loop Inv-loop μ-loop) : Type 0 where
@@ -88,14 +92,14 @@ record Placed (c : tie.In-loop Inv-loop μ-loop) : Type 0 where
 placed : (c : tie.In-loop Inv-loop μ-loop) → Placed c
 placed c =
     let a = c .before in
-    let (l, k) = bounds (blocks a) (code a) (start a .pre .0) (block c) (omega arith) in
+    let (l, k) = bounds (tables a) (start a .pre .lengths) (block c) (omega arith) in
     record {
       starts-there = a .loop .inv .5;
       past = starts-at a (block c + 1) (omega arith) ∙ start-more (blocks a) (block c);
       least = l;
       inside = k;
-      long = sym (routine-long (blocks a) (code a) (block c)) ∙ covered c .long;
-      short = start a .pre .2;
+      long = sym (routine-long (tables a) (block c)) ∙ covered c .long;
+      short = start a .pre .short;
     }
 
 -- ---- after the block
@@ -116,7 +120,7 @@ left c =
 block-ran : (c : tie.After-run-block Inv-loop μ-loop)
     → exitOf (c .run-block .result .exit) (left c)
     ≡ steps (routine (here c .before)) (routine (here c .before) .long (block (here c))) (entered c)
-block-ran c = c .run-block .ensures .0 _ _ 0 (routine-count _ _) (covered (here c))
+block-ran c = c .run-block .ensures .0 _ _ 0 (routine-count _) (covered (here c))
 
 -- memory keeps its length
 kept : (c : tie.After-run-block Inv-loop μ-loop) → length (left c .memory) ≡ length (now (start (here c .before) .args .memory))
@@ -129,17 +133,17 @@ exited c = c .before .before .before
 -- the code index of the last instruction
 indexed : (c : tie.After-run-block Inv-loop μ-loop)
     → first (here c) + c .run-block .result .at ≡ routine (here c .before) .start (block (here c)) + c .run-block .result .at
-indexed c = let a = here c .before in omega (arith, placed (here c), routine-start (blocks a) (code a) (block (here c)))
+indexed c = let a = here c .before in omega (arith, placed (here c), routine-start (tables a) (block (here c)))
 
 -- a block that the exit leads to is one of the table
-exists : (c : tie.After-run-block Inv-loop μ-loop) (t : ℕ) → Leads (c .run-block .result .exit) (block (here c)) t → t < rows (blocks (here c .before))
+exists : (c : tie.After-run-block Inv-loop μ-loop) (t : ℕ) → GoesTo (c .run-block .result .exit) (block (here c)) t → t < rows (blocks (here c .before))
 exists c t l =
     let a = here c .before in
-    leads-on _ _ (start a .pre .0) _ (a .loop .b) _ _ _ _ _ _ _ _ (a .loop .inv .2) _ (block-ran c) t l
+    leads-on (tables a) (start a .pre .lengths) _ (a .loop .b) _ _ _ _ _ _ _ _ (a .loop .inv .2) _ (block-ran c) t l
 
 -- where the run goes on
 record Onward (c : tie.At-match-came Inv-loop μ-loop) : Type 0 where
-  leads : Leads (exited (c .before) .run-block .result .exit) (block (here (exited (c .before)))) (c .match .b)
+  leads : GoesTo (exited (c .before) .run-block .result .exit) (block (here (exited (c .before)))) (c .match .b)
   starts-there : c .match .first ≡ startOf (blocks (here (exited (c .before)) .before)) (c .match .b)
 
 onward : (c : tie.At-match-came Inv-loop μ-loop) → Onward c
@@ -147,7 +151,7 @@ onward c =
     let k = exited (c .before) in
     let a = here k .before in
     ⊎-elim
-    (λ w. let l : Leads (k .run-block .result .exit) (block (here k)) (c .match .b) = inl (rw (w .4) (w .1 .given .1)) in
+    (λ w. let l : GoesTo (k .run-block .result .exit) (block (here k)) (c .match .b) = inl (rw (w .4) (w .1 .given .1)) in
     record { leads = l; starts-there = w .5 ∙ rw (← w .4) (starts-at a _ (omega (arith, exists k (c .match .b) l))) })
     (λ w. record {
       leads = inr (w .1 .given .1, w .2);
@@ -174,12 +178,12 @@ element-copy-out-first : tie.Need-element-copy-out-first Inv-loop μ-loop
 element-copy-out-first c = omega arith
 
 cast-first : tie.Need-cast-first Inv-loop μ-loop
-cast-first c = let s = c .before .before .before .before .before in omega (arith, begins s _ (s .pre .3))
+cast-first c = let s = c .before .before .before .before .before in omega (arith, begins s _ (s .pre .exists))
 
 loop-holds : tie.Need-loop-holds Inv-loop μ-loop
 loop-holds c =
     let s = c .before .before .before .before .before in
-    (rw sub-zero, omega arith, omega arith, refl, c .before .opcode-rows .ensures, begins s _ (s .pre .3) .starts-there)
+    (rw sub-zero, omega arith, omega arith, refl, c .before .opcode-rows .ensures, begins s _ (s .pre .exists) .starts-there)
 
 cast-end : tie.Need-cast-end Inv-loop μ-loop
 cast-end c = omega arith
@@ -238,7 +242,7 @@ mul-first-2 c = search needs
 element-copy-out-first-2 : tie.Need-element-copy-out-first-2 Inv-loop μ-loop
 element-copy-out-first-2 c =
     let k = exited (c .before .before .before) in
-    omega (arith, taken (c .before), start (here k .before) .pre .1)
+    omega (arith, taken (c .before), start (here k .before) .pre .few)
 
 cast-first-3 : tie.Need-cast-first-3 Inv-loop μ-loop
 cast-first-3 c =
@@ -323,7 +327,7 @@ returns-3 c =
     let a = c .before .before in
     let l = a .loop in
     answered (c .answer3 .ensures)
-    (run-pauses (routine a) (start a .args .budget) (l .finished) (l .b) _ _ _ (omega arith) (l .inv .5 ∙ sym (routine-start (blocks a) (code a) (l .b)))
+    (run-pauses (routine a) (start a .args .budget) (l .finished) (l .b) _ _ _ (omega arith) (l .inv .5 ∙ sym (routine-start (tables a) (l .b)))
     ∙ sym (l .inv .0))
 
 pub run-blocks-spec : {M : Type 1} → statement M

@@ -5,10 +5,12 @@ use native.Mathlib.Omega.{arith}
 use denote.Ref.{now}
 use lib.ListN.{length}
 use Rattle.model.specs.Question.{ok}
-use Rattle.model.specs.MemoryCheck.{layoutAsk}
+use Rattle.model.specs.Table.{rows, codeOf}
+use Rattle.model.specs.Machine.{ready}
+use Rattle.model.specs.MemoryCheck.{layoutAsk, routineAsk}
 use Rattle.table.proofs.Questions.{no-refusal, after-yes, at-no, at-last}
 use Rattle.layout.proofs.Passed.{layout-types}
-use Rattle.memory.proofs.Checks.{layout-sized, layout-placed, layout-owned, routine-block, routine-well, EntryPast, entry-begins}
+use Rattle.memory.proofs.Checks.{layout-fields, layout-can-be-laid, layout-owned, routine-block, routine-well, EntryPast, entry-begins}
 use borrow.Author.Needs.{needs}
 use Rattle.memory.proofs.entry_check.Statement.{statement}
 use Rattle.memory.proofs.entry_check.Tie as tie
@@ -27,17 +29,21 @@ past-1 c = c .before .before .before
 abbrev Past : tie.Start → ℕ → Type 0
 Past s =
     EntryPast (now (s .args .types)) (now (s .args .tags)) (now (s .args .allocations)) (now (s .args .memory))
-    (now (s .args .blocks)) (now (s .args .code)) (s .args .block) (s .args .registers)
+    (codeOf (now (s .args .blocks)) (now (s .args .code))) (ready (s .args .block) (s .args .registers))
 
 left-1 : (c : tie.Else1) → Past (start-1 c) 1
-left-1 c = after-yes (entry-begins _ _ _ _ _ _ _ _) (c .before .before .layout .ensures) (c .if1 .left)
+left-1 c = after-yes (entry-begins _ _ _ _ _ _) (c .before .before .layout .ensures) (c .if1 .left)
 
 left-2 : (c : tie.Else2) → Past (start-1 (past-1 c)) 2
-left-2 c = after-yes (left-1 (past-1 c)) (c .before .before .routine .ensures _) (c .if2 .left)
+left-2 c = after-yes (left-1 (past-1 c)) (c .before .before .routine .ensures) (c .if2 .left)
 
 laid : (c : tie.Else1)
     → let s = start-1 c .args in layoutAsk (now (s .types)) (now (s .tags)) (now (s .allocations)) (length (now (s .memory))) ≡ ok tt
 laid c = no-refusal _ _ (c .before .before .layout .ensures) (c .if1 .left)
+
+made : (c : tie.Else2)
+    → let s = start-1 (past-1 c) .args in routineAsk (rows (now (s .types))) (codeOf (now (s .blocks)) (now (s .code))) (s .block) ≡ ok tt
+made c = no-refusal _ _ (c .before .before .routine .ensures) (c .if2 .left)
 
 -- ---- the needs
 
@@ -45,22 +51,21 @@ layout-requires : tie.Need-layout-requires
 layout-requires c κs = search needs
 
 returns : tie.Need-returns
-returns c = at-no (entry-begins _ _ _ _ _ _ _ _) (c .before .before .layout .ensures) (c .if1 .taken)
+returns c = at-no (entry-begins _ _ _ _ _ _) (c .before .before .layout .ensures) (c .if1 .taken)
 
 routine-requires : tie.Need-routine-requires
 routine-requires c κs = layout-types _ _ _ _ (laid c)
 
 returns-2 : tie.Need-returns-2
-returns-2 c = at-no (left-1 (c .before .before .before)) (c .before .before .routine .ensures _) (c .if2 .taken)
+returns-2 c = at-no (left-1 (c .before .before .before)) (c .before .before .routine .ensures) (c .if2 .taken)
 
 fill-requires : tie.Need-fill-requires
-fill-requires c κs = layout-placed _ _ _ _ (laid (past-1 (c .before)))
+fill-requires c κs = layout-can-be-laid _ _ _ _ (laid (past-1 (c .before)))
 
 registers-met-requires : tie.Need-registers-met-requires
 registers-met-requires c κs =
     let m = c .before .before .before in
-    let r = no-refusal _ _ (m .before .before .routine .ensures (now (start-1 (past-1 m) .args .tags))) (m .if2 .left) in
-    (layout-sized _ _ _ _ (laid (past-1 m)), omega (arith, routine-block _ _ _ _ _ r), routine-well _ _ _ _ _ r)
+    (layout-fields _ _ _ _ (laid (past-1 m)), omega (arith, routine-block _ _ _ (made m)), routine-well _ _ _ (made m))
 
 returns-3 : tie.Need-returns-3
 returns-3 c =

@@ -6,7 +6,7 @@ use lib.ListN.{length}
 use Rattle.model.specs.Question.{ok}
 use Rattle.model.specs.MemoryCheck.{layoutAsk}
 use Rattle.table.proofs.Questions.{no-refusal, after-yes, at-no, at-last}
-use Rattle.memory.proofs.Checks.{layout-placed, layout-owned, MemoryPast, memory-begins}
+use Rattle.memory.proofs.Checks.{layout-can-be-laid, layout-owned, MemoryPast, memory-begins}
 use borrow.Author.Needs.{needs}
 use Rattle.memory.proofs.memory_check.Statement.{statement}
 use Rattle.memory.proofs.memory_check.Tie as tie
@@ -35,7 +35,7 @@ returns : tie.Need-returns
 returns c = at-no (memory-begins _ _ _ _) (c .before .before .layout .ensures) (c .if1 .taken)
 
 fill-requires : tie.Need-fill-requires
-fill-requires c κs = layout-placed _ _ _ _ (laid (c .before))
+fill-requires c κs = layout-can-be-laid _ _ _ _ (laid (c .before))
 
 records-requires : tie.Need-records-requires
 records-requires c κs =

@@ -1,10 +1,10 @@
--- `memory::routine` meets its contract: past each question, those left come to what all come to. Any tags do.
-use mathlib.Core.Path.{refl, _∙_}
-use mathlib.Core.List.{List}
+-- `memory::routine` meets its contract: past each question, those left come to what all come to.
+use mathlib.Core.Path.{_∙_}
 use Prim.Native.Nat.{ℕ}
 use native.Mathlib.Omega.{arith}
 use denote.Ref.{now}
 use lib.ListN.{length}
+use Rattle.model.specs.Table.{rows, codeOf}
 use Rattle.table.proofs.Laws.{CodeLengths, code-lengths-passed, start-no, start-yes}
 use Rattle.table.proofs.Questions.{after-yes, at-no, at-last}
 use Rattle.memory.proofs.Checks.{RoutinePast, routine-begins}
@@ -23,17 +23,17 @@ past-1 c = c .before .before .before .before
 abbrev past-2 : tie.Else3 → tie.Else2
 past-2 c = c .before .before .before
 
-abbrev Past : tie.Start → List ℕ → ℕ → Type 0
-Past s tags = RoutinePast (now (s .args .types)) tags (now (s .args .blocks)) (now (s .args .code)) (s .args .block)
+abbrev Past : tie.Start → ℕ → Type 0
+Past s = RoutinePast (rows (now (s .args .types))) (codeOf (now (s .args .blocks)) (now (s .args .code))) (s .args .block)
 
-left-1 : (c : tie.Else1) (tags : List ℕ) → Past (start c) tags 1
-left-1 c tags = after-yes (routine-begins _ tags _ _ _) (c .before .before .code-lengths .ensures) (c .if1 .left)
+left-1 : (c : tie.Else1) → Past (start c) 1
+left-1 c = after-yes (routine-begins _ _ _) (c .before .before .code-lengths .ensures) (c .if1 .left)
 
-left-2 : (c : tie.Else2) (tags : List ℕ) → Past (start (past-1 c)) tags 2
-left-2 c tags = after-yes (left-1 (past-1 c) tags) (c .before .before .lengths .ensures .0) (c .if2 .left)
+left-2 : (c : tie.Else2) → Past (start (past-1 c)) 2
+left-2 c = after-yes (left-1 (past-1 c)) (c .before .before .lengths .ensures .0) (c .if2 .left)
 
-left-3 : (c : tie.Else3) (tags : List ℕ) → Past (start (past-1 (past-2 c))) tags 3
-left-3 c tags = after-yes (left-2 (past-2 c) tags) (c .before .before .annotations .ensures _ tags _ refl) (c .if3 .left)
+left-3 : (c : tie.Else3) → Past (start (past-1 (past-2 c))) 3
+left-3 c = after-yes (left-2 (past-2 c)) (c .before .before .annotations .ensures) (c .if3 .left)
 
 code-lengths : (c : tie.Else1) → CodeLengths (length (now (start c .args .blocks))) (length (now (start c .args .code)))
 code-lengths c = code-lengths-passed _ _ _ (c .before .before .code-lengths .ensures) (c .if1 .left)
@@ -44,13 +44,13 @@ code-lengths-requires : tie.Need-code-lengths-requires
 code-lengths-requires c κs = search needs
 
 returns : tie.Need-returns
-returns c = λ tags. at-no (routine-begins _ tags _ _ _) (c .before .before .code-lengths .ensures) (c .if1 .taken)
+returns c = at-no (routine-begins _ _ _) (c .before .before .code-lengths .ensures) (c .if1 .taken)
 
 lengths-requires : tie.Need-lengths-requires
 lengths-requires c κs = omega (arith, code-lengths (c .before))
 
 returns-2 : tie.Need-returns-2
-returns-2 c = λ tags. at-no (left-1 (c .before .before .before .before) tags) (c .before .before .lengths .ensures .0) (c .if2 .taken)
+returns-2 c = at-no (left-1 (c .before .before .before .before)) (c .before .before .lengths .ensures .0) (c .if2 .taken)
 
 cast-annotations : tie.Need-cast-annotations
 cast-annotations c = search needs
@@ -59,19 +59,19 @@ annotations-requires : tie.Need-annotations-requires
 annotations-requires c κs = code-lengths (past-1 c) .most
 
 returns-3 : tie.Need-returns-3
-returns-3 c = λ tags. at-no (left-2 (c .before .before .before) tags) (c .before .before .annotations .ensures _ tags _ refl) (c .if3 .taken)
+returns-3 c = at-no (left-2 (c .before .before .before)) (c .before .before .annotations .ensures) (c .if3 .taken)
 
 refused-requires : tie.Need-refused-requires
 refused-requires c κs = search needs
 
 returns-4 : tie.Need-returns-4
-returns-4 c = λ tags. at-last (left-3 (c .before .before) tags) (c .refused .ensures ∙ start-no _ _ _ (omega arith))
+returns-4 c = at-last (left-3 (c .before .before)) (c .refused .ensures ∙ start-no _ _ (omega arith))
 
 passed-requires : tie.Need-passed-requires
 passed-requires c κs = search needs
 
 returns-5 : tie.Need-returns-5
-returns-5 c = λ tags. at-last (left-3 (c .before .before) tags) (c .passed .ensures ∙ start-yes _ _ _ (omega arith))
+returns-5 c = at-last (left-3 (c .before .before)) (c .passed .ensures ∙ start-yes _ _ (omega arith))
 
 pub routine-spec : {M : Type 1} → statement M
 routine-spec =

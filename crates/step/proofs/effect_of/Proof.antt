@@ -3,8 +3,9 @@ use mathlib.Core.Path.{_≡_, refl, sym, _∙_}
 use Prim.Native.Nat.{ℕ, _%_}
 use native.Mathlib.Omega.{arith}
 use Rattle.model.specs.Word.{opcodeOf, aOf, bOf, cOf}
-use Rattle.instruction.proofs.Forms.{registers}
-use Rattle.step.proofs.Instructions.{Inside, inside-word, fewer, divisor, form-refuses, loads, stores, divides, values}
+use Rattle.instruction.specs.Form.{Inside}
+use Rattle.instruction.proofs.Laws.{inside-word}
+use Rattle.step.proofs.Instructions.{fewer, divisor, refuses, loads, stores, divides, values}
 use borrow.Author.Needs.{needs}
 use Rattle.step.proofs.effect_of.Statement.{statement}
 use Rattle.step.proofs.effect_of.Tie as tie
@@ -17,12 +18,12 @@ word c = c .before .before .before .before .args .w
 abbrev passed : tie.After-y → tie.Else1
 passed c = c .before .before .before .before .before
 
-inside : (c : tie.Else1) → Inside (word c)
-inside c = inside-word _ _ (c .before .form .ensures) (c .if1 .left)
+inside : (c : tie.Else1) → Inside 1 (word c)
+inside c = inside-word _ _ _ _ (c .if1 .left) (c .before .form .ensures)
 
 -- what the parts of the word are
 record Parts (c : tie.After-y) : Type 0 where
-  formed : Inside (word (passed c))
+  formed : Inside 1 (word (passed c))
   opcode-is : c .before .before .before .before .opcode .result ≡ opcodeOf (word (passed c))
   a-is : passed c .before .before .before .a .result % 8 ≡ aOf (word (passed c))
   b-is : c .before .before .b .result ≡ bOf (word (passed c))
@@ -34,7 +35,7 @@ parts c =
     record {
       formed = q;
       opcode-is = c .before .before .before .before .opcode .ensures .0;
-      a-is = let p = passed c .before .before .before .a .ensures in omega (arith, registers _ (q .0));
+      a-is = let p = passed c .before .before .before .a .ensures in omega (arith, q .a-exists);
       b-is = c .before .before .b .ensures .0;
       c-is = c .before .before .before .c .ensures .0;
     }
@@ -59,7 +60,7 @@ put-requires c κs = search needs
 returns : tie.Need-returns
 returns c =
     let t = c .before in
-    rw (c .put .ensures) (λ P b j f n m d. form-refuses P b j f n _ m d _ _ _ (t .before .form .ensures) (t .if1 .taken), omega arith)
+    rw (c .put .ensures) (λ P b j f n m d. refuses P b j f n _ m d _ _ _ (t .before .form .ensures) (t .if1 .taken), omega arith)
 
 opcode-requires : tie.Need-opcode-requires
 opcode-requires c κs = search needs
@@ -74,7 +75,7 @@ mul-x : tie.Need-mul-x
 mul-x c = search needs
 
 element-copy-out-x : tie.Need-element-copy-out-x
-element-copy-out-x c = omega (arith, registers _ (inside (c .before .before .before) .0))
+element-copy-out-x c = omega (arith, inside (c .before .before .before) .b-exists)
 
 cast-y : tie.Need-cast-y
 cast-y c = search needs
@@ -97,7 +98,7 @@ returns-2 c =
     let p = parts (t .before) in
     rw (c .reach .ensures) (
       λ P b j f n m d.
-          loads P b j f n _ m d _ (p .formed .0) _ (p .a-is) _ (p .c-is) _ _ (p .b-is) refl (sym (p .opcode-is) ∙ t .if2 .taken) _
+          loads P b j f n _ m d _ (p .formed) _ (p .a-is) _ (p .c-is) _ _ (p .b-is) refl (sym (p .opcode-is) ∙ t .if2 .taken) _
           (c .before .address .ensures),
       omega arith,
     )
@@ -114,7 +115,7 @@ returns-3 c =
     let p = parts (t .before .before) in
     rw (c .reach2 .ensures) (
       λ P b j f n m d.
-          stores P b j f n _ m d _ (p .formed .0) _ (p .a-is) _ (p .c-is) _ _ (p .b-is) refl (sym (p .opcode-is) ∙ t .if3 .taken) _
+          stores P b j f n _ m d _ (p .formed) _ (p .a-is) _ (p .c-is) _ _ (p .b-is) refl (sym (p .opcode-is) ∙ t .if3 .taken) _
           (c .before .address2 .ensures),
       omega arith,
     )
@@ -122,7 +123,7 @@ returns-3 c =
 quotient-requires : tie.Need-quotient-requires
 quotient-requires c κs =
     let p = parts (c .before .before .before) in
-    omega (arith, divisor _ (p .formed .0) (sym (p .opcode-is) ∙ c .if4 .taken), p .c-is)
+    omega (arith, divisor _ (p .formed) (sym (p .opcode-is) ∙ c .if4 .taken), p .c-is)
 
 put-requires-2 : tie.Need-put-requires-2
 put-requires-2 c κs = search needs
@@ -133,7 +134,7 @@ returns-4 c =
     let p = parts (t .before .before .before) in
     rw (c .put2 .ensures) (
       λ P b j f n m d.
-          divides P b j f n _ m d _ (p .formed .0) _ (p .a-is) _ (p .c-is) _ _ (p .b-is) refl (sym (p .opcode-is) ∙ t .if4 .taken) _
+          divides P b j f n _ m d _ (p .formed) _ (p .a-is) _ (p .c-is) _ _ (p .b-is) refl (sym (p .opcode-is) ∙ t .if4 .taken) _
           (c .before .quotient .ensures),
       omega arith,
     )
@@ -154,7 +155,7 @@ returns-5 c =
     let few = fewer _ (p .formed) (λ e. n8 (o ∙ e)) (λ e. n9 (o ∙ e)) in
     rw (c .put3 .ensures) (
       λ P b j f n m d.
-          values P b j f n _ m d _ (p .formed .0) _ (p .a-is) _ (p .c-is) _ _ (p .b-is) refl _ refl (p .formed .1) few
+          values P b j f n _ m d _ (p .formed) _ (p .a-is) _ (p .c-is) _ _ (p .b-is) refl _ refl few
           (λ e. t .if4 .left (o ∙ e)) _ _ o (c .before .value .ensures),
       omega arith,
     )

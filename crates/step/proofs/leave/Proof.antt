@@ -1,11 +1,11 @@
 -- `step::leave` meets its contract: a law for each return.
 use mathlib.Core.Path.{_≡_, sym, _∙_}
-use Prim.Native.Nat.{_<_, _≤_}
+use Prim.Native.Nat.{_<_}
 use native.Mathlib.Omega.{arith}
 use Rattle.model.specs.Word.{opcodeOf, aOf, cOf}
-use Rattle.instruction.proofs.Forms.{registers}
-use Rattle.step.proofs.Instructions.{Ending, ending-word, form-refuses-last, halts-here, jumps-to, equal-taken, equal-left, less-taken}
-use Rattle.step.proofs.Instructions.{less-left}
+use Rattle.instruction.specs.Form.{Ending}
+use Rattle.instruction.proofs.Laws.{ending-word}
+use Rattle.step.proofs.Instructions.{refuses-last, halts-here, jumps-to, equal-taken, equal-left, less-taken, less-left}
 use borrow.Author.Needs.{needs}
 use Rattle.step.proofs.leave.Statement.{statement}
 use Rattle.step.proofs.leave.Tie as tie
@@ -21,15 +21,14 @@ passed c = c .before .before
 abbrev known : tie.After-x → tie.After-c
 known c = c .before .before .before .before
 
-ending : (c : tie.Else1) → Ending (start c .args .w) (start c .args .b) (start c .args .count)
-ending c = ending-word _ _ _ _ (c .before .form .ensures) (c .if1 .left)
+ending : (c : tie.Else1) → Ending (start c .args .b) (start c .args .count) (start c .args .w)
+ending c = ending-word _ _ _ _ (c .if1 .left) (c .before .form .ensures)
 
 -- what is known of a branch
 record Branch (c : tie.After-x) : Type 0 where
-  formed : Ending (start (passed (known c)) .args .w) (start (passed (known c)) .args .b) (start (passed (known c)) .args .count)
+  formed : Ending (start (passed (known c)) .args .b) (start (passed (known c)) .args .count) (start (passed (known c)) .args .w)
   opcode-is : known c .before .opcode .result ≡ opcodeOf (start (passed (known c)) .args .w)
   higher : 10 < opcodeOf (start (passed (known c)) .args .w)
-  highest : opcodeOf (start (passed (known c)) .args .w) ≤ 12
   c-is : known c .c .result ≡ cOf (start (passed (known c)) .args .w)
   a-is : c .before .a .result ≡ aOf (start (passed (known c)) .args .w)
 
@@ -40,12 +39,11 @@ branch c =
     let o = k .before .opcode .ensures .0 in
     let n10 = c .before .before .before .if2 .left in
     let n0 = c .before .before .if3 .left in
-    let (l, h) = q .1 (λ z. n0 (o ∙ z)) in
+    let some : 0 < opcodeOf (start (passed k) .args .w) = omega (arith, o, n0) in
     record {
       formed = q;
       opcode-is = o;
-      higher = omega (arith, l, o, n10);
-      highest = h;
+      higher = omega (arith, q .ends some, o, n10);
       c-is = k .c .ensures .0;
       a-is = c .before .a .ensures .0;
     }
@@ -56,7 +54,7 @@ form-requires : tie.Need-form-requires
 form-requires c κs = search needs
 
 returns : tie.Need-returns
-returns c = λ P j f n m ec d. form-refuses-last P _ j f n _ m _ _ ec d _ (c .before .form .ensures) (c .if1 .taken)
+returns c = λ P j f n m ec d. refuses-last P _ j f n _ m _ _ ec d _ (c .before .form .ensures) (c .if1 .taken)
 
 opcode-requires : tie.Need-opcode-requires
 opcode-requires c κs = tt
@@ -83,7 +81,7 @@ mul-x : tie.Need-mul-x
 mul-x c = search needs
 
 element-copy-out-x : tie.Need-element-copy-out-x
-element-copy-out-x c = omega (arith, registers _ (ending (passed (c .before .before .before)) .0))
+element-copy-out-x c = omega (arith, ending (passed (c .before .before .before)) .a-exists)
 
 returns-4 : tie.Need-returns-4
 returns-4 c =
@@ -104,14 +102,14 @@ mul-less : tie.Need-mul-less
 mul-less c = search needs
 
 element-copy-out-less : tie.Need-element-copy-out-less
-element-copy-out-less c = omega (arith, registers _ (branch (c .before .before) .formed .0))
+element-copy-out-less c = omega (arith, branch (c .before .before) .formed .b-exists)
 
 less-requires : tie.Need-less-requires
 less-requires c κs = tt
 
 -- no other opcode is left
 is-less : (c : tie.After-b) → opcodeOf (start (passed (known (c .before .before))) .args .w) ≡ 12
-is-less c = let p = branch (c .before .before) in omega (arith, p .opcode-is, p .higher, p .highest, c .before .if4 .left)
+is-less c = let p = branch (c .before .before) in omega (arith, p .opcode-is, p .higher, p .formed .known, c .before .if4 .left)
 
 returns-6 : tie.Need-returns-6
 returns-6 c =

@@ -1,6 +1,5 @@
 -- `straight::access` meets its contract.
 use mathlib.Core.Path.{sym, _∙_}
-use native.Mathlib.Omega.{arith}
 use Rattle.model.specs.Question.{q10}
 use Rattle.model.proofs.Logic.{answer-of}
 use borrow.Author.Needs.{needs}
@@ -52,10 +51,11 @@ returns : tie.Need-returns
 returns c =
     let r = c .before .before .before in
     let w = read r in
-    let n = number-of (c .refused .ensures) in (
-      λ place. access-nothing (parts w) (start w .pre .0) _ _ _ _ (sym (c .before .enum-told .given .1) ∙ r .reference .ensures _) _ n _,
-      answer-of _ q10 n,
-    )
+    let n = number-of (c .refused .ensures) in
+    record {
+      outcome = λ place. access-nothing (parts w) (start w .pre .0) _ _ _ _ (sym (c .before .enum-told .given .1) ∙ r .reference .ensures _) _ n _;
+      answers = answer-of _ q10 n;
+    }
 
 opcode-requires : tie.Need-opcode-requires
 opcode-requires c κs = search needs
@@ -68,12 +68,13 @@ returns-2 c =
     let o = opcode c in
     let t = o .before .before in
     let r = t .before .before in
-    let w = read r in (
-      λ place.
-          c .touch .ensures .0 place
-          ∙ access-on (parts w) (start w .pre .0) _ _ _ _ _ (sym (t .t .given .1) ∙ r .reference .ensures _) _ (o .opcode .ensures .0),
-      c .touch .ensures .1,
-    )
+    let w = read r in
+    record {
+      outcome = λ place.
+          c .touch .ensures .outcome place
+          ∙ access-on (parts w) (start w .pre .0) _ _ _ _ _ (sym (t .t .given .1) ∙ r .reference .ensures _) _ (o .opcode .ensures .0);
+      answers = c .touch .ensures .answers;
+    }
 
 pub access-spec : {M : Type 1} → statement M
 access-spec =

@@ -33,16 +33,16 @@ element-copy-out-wide c = search needs
 wide-requires : tie.Need-wide-requires
 wide-requires c κs = search needs
 
-mul-name-all : tie.Need-mul-name-all
-mul-name-all c = search needs
+mul-names : tie.Need-mul-names
+mul-names c = search needs
 
-name-all-requires : tie.Need-name-all-requires
-name-all-requires c κs = search needs
+names-requires : tie.Need-names-requires
+names-requires c κs = search needs
 
 returns-2 : tie.Need-returns-2
 returns-2 c =
-    let w = c .before .before .before .before in
-    λ registers tags. look-seen _ _ _ _ _ _ _ _ _ _ _ _ _ (omega arith) _ (w .wide .ensures .0) (omega arith) _ (c .name-all .ensures)
+    let w = c .before .before .before in
+    λ registers tags. look-seen _ _ _ _ _ _ _ _ _ _ _ _ _ (omega arith) _ (w .wide .ensures .0) (omega arith) _ (c .names .ensures)
 
 cast-row : tie.Need-cast-row
 cast-row c = search needs
@@ -50,20 +50,20 @@ cast-row c = search needs
 row-requires : tie.Need-row-requires
 row-requires c κs = search needs
 
-sub-lay : tie.Need-sub-lay
-sub-lay c = omega (arith, row-words _ _ _ (row-exists (c .before)) (c .before .row .ensures))
+sub-copy-row : tie.Need-sub-copy-row
+sub-copy-row c = omega (arith, row-words _ _ _ (row-exists (c .before)) (c .before .row .ensures))
 
-part-lay-start : tie.Need-part-lay-start
-part-lay-start c = omega (arith, row-words _ _ _ (row-exists (c .before)) (c .before .row .ensures))
+part-copy-row-start : tie.Need-part-copy-row-start
+part-copy-row-start c = omega (arith, row-words _ _ _ (row-exists (c .before)) (c .before .row .ensures))
 
-part-lay-end : tie.Need-part-lay-end
-part-lay-end c = search needs
+part-copy-row-end : tie.Need-part-copy-row-end
+part-copy-row-end c = search needs
 
-mul-lay : tie.Need-mul-lay
-mul-lay c = search needs
+mul-copy-row : tie.Need-mul-copy-row
+mul-copy-row c = search needs
 
-lay-requires : tie.Need-lay-requires
-lay-requires c κs = let r = c .before .before in omega (arith, part-length _ _ _ (row-exists r) (r .row .ensures))
+copy-row-requires : tie.Need-copy-row-requires
+copy-row-requires c κs = let r = c .before .before in omega (arith, part-length _ _ _ (row-exists r) (r .row .ensures))
 
 cast-frames : tie.Need-cast-frames
 cast-frames c = search needs
@@ -83,22 +83,22 @@ cast-views c = search needs
 element-write-views : tie.Need-element-write-views
 element-write-views c = search needs
 
-cast-name-all : tie.Need-cast-name-all
-cast-name-all c = search needs
+cast-names : tie.Need-cast-names
+cast-names c = search needs
 
-mul-name-all-2 : tie.Need-mul-name-all-2
-mul-name-all-2 c = search needs
+mul-names-2 : tie.Need-mul-names-2
+mul-names-2 c = search needs
 
-name-all-requires-2 : tie.Need-name-all-requires-2
-name-all-requires-2 c κs = search needs
+names-requires-2 : tie.Need-names-requires-2
+names-requires-2 c κs = search needs
 
 returns-3 : tie.Need-returns-3
 returns-3 c =
-    let l = c .before .before in
+    let l = c .before in
     let r = l .before .before .before in
     λ registers tags.
     look-born _ _ _ _ _ _ _ _ _ _ _ _ _ (omega arith) _ (viewed r .wide .ensures .0) (omega arith) (start (viewed r) .pre .0) _ _ _
-    (part-is _ _ _ (r .row .ensures)) (l .lay .ensures) (c .name-all2 .ensures)
+    (part-is _ _ _ (r .row .ensures)) (l .copy-row .ensures) (c .names2 .ensures)
 
 pub look-spec : {M : Type 1} → statement M
 look-spec =
@@ -108,23 +108,23 @@ look-spec =
     cast-v
     element-copy-out-wide
     wide-requires
-    mul-name-all
-    name-all-requires
+    mul-names
+    names-requires
     returns-2
     cast-row
     row-requires
-    sub-lay
-    part-lay-start
-    part-lay-end
-    mul-lay
-    lay-requires
+    sub-copy-row
+    part-copy-row-start
+    part-copy-row-end
+    mul-copy-row
+    copy-row-requires
     cast-frames
     element-write-frames
     mul-constants
     element-write-constants
     cast-views
     element-write-views
-    cast-name-all
-    mul-name-all-2
-    name-all-requires-2
+    cast-names
+    mul-names-2
+    names-requires-2
     returns-3)

@@ -2,7 +2,7 @@
 use mathlib.Core.Path.{_∙_}
 use native.Mathlib.Omega.{arith}
 use borrow.Author.Needs.{needs}
-use Rattle.model.proofs.Logic.{told-no, told-yes}
+use Rattle.model.proofs.Logic.{test-false, test-true}
 use Rattle.straight.proofs.Steps.{moved-other, moved-not, moved-on}
 use Rattle.straight.proofs.moved_word.Statement.{statement}
 use Rattle.straight.proofs.moved_word.Tie as tie
@@ -28,7 +28,7 @@ returns-2 c =
     let s = d .before in
     λ tags.
     moved-not _ _ _ _ (omega arith) _ _ (s .before .record-type .ensures .0) (s .size .ensures .0)
-    (told-no (d .divides .ensures) (c .if2 .taken))
+    (test-false (d .divides .ensures) (c .if2 .taken))
 
 with-kind-requires : tie.Need-with-kind-requires
 with-kind-requires c κs = search needs
@@ -40,7 +40,7 @@ returns-3 c =
     let s = d .before in
     λ tags.
     c .with-kind .ensures
-    ∙ moved-on _ _ _ _ (omega arith) _ _ (s .before .record-type .ensures .0) (s .size .ensures .0) (told-yes (d .divides .ensures) (e .if2 .left))
+    ∙ moved-on _ _ _ _ (omega arith) _ _ (s .before .record-type .ensures .0) (s .size .ensures .0) (test-true (d .divides .ensures) (e .if2 .left))
 
 pub moved-word-spec : {M : Type 1} → statement M
 moved-word-spec =

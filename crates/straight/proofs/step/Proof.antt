@@ -27,7 +27,7 @@ parts : (c : tie.After-c) → Parts (start (opcode c) .args .i .word) (c .before
 parts c = record { a-is = c .before .before .a .ensures .0; b-is = c .before .b .ensures .0; c-is = c .c .ensures .0 }
 
 goes-on : (c : tie.After-c) → start (opcode c) .args .i .s .number ≡ 0
-goes-on c = start (opcode c) .pre .2 .goes-on
+goes-on c = start (opcode c) .pre .2
 
 -- ---- the needs
 
@@ -37,8 +37,8 @@ opcode-requires c κs = search needs
 access-requires : tie.Need-access-requires
 access-requires c κs =
     let t = c .before .before .before .before .before .before in
-    let (f, g, r) = start (t .before) .pre in
-    (record { from = omega arith; to = f .to; a-exists = f .a-exists; b-exists = f .b-exists }, g, r)
+    let (f, g, n, r) = start (t .before) .pre in
+    (record { well = f .well; from = omega arith; to = f .to; a-exists = f .a-exists; b-exists = f .b-exists }, g, n, r)
 
 returns : tie.Need-returns
 returns c = search needs
@@ -60,12 +60,13 @@ fresh-requires c κs = search needs
 
 returns-2 : tie.Need-returns-2
 returns-2 c =
-    let k = c .before .before .before .before .before .before in (
-      λ place.
+    let k = c .before .before .before .before .before .before in
+    record {
+      outcome = λ place.
           step-constant (parts k) _ _ _ _ _ (goes-on k) _ (omega arith)
-          (fresh-is _ _ _ _ _ _ _ _ _ _ _ _ _ _ _ _ _ (c .fresh .ensures)),
-      answer-none _ (goes-on k),
-    )
+          (fresh-is _ _ _ _ _ _ _ _ _ _ _ _ _ _ _ _ _ (c .fresh .ensures));
+      answers = answer-none _ (goes-on k);
+    }
 
 element-copy-out-registers : tie.Need-element-copy-out-registers
 element-copy-out-registers c = search needs
@@ -74,19 +75,22 @@ element-write-registers : tie.Need-element-write-registers
 element-write-registers c = search needs
 
 returns-3 : tie.Need-returns-3
-returns-3 c = let k = c .before .before .before in (λ place. step-copy (parts k) _ _ _ _ _ (goes-on k) (omega arith), answer-none _ (goes-on k))
+returns-3 c =
+    let k = c .before .before .before in
+    record { outcome = λ place. step-copy (parts k) _ _ _ _ _ (goes-on k) (omega arith); answers = answer-none _ (goes-on k) }
 
 fresh-requires-2 : tie.Need-fresh-requires-2
 fresh-requires-2 c κs = search needs
 
 returns-4 : tie.Need-returns-4
 returns-4 c =
-    let k = third (c .before .before .before .before .before .before) in (
-      λ place.
+    let k = third (c .before .before .before .before .before .before) in
+    record {
+      outcome = λ place.
           step-arithmetic (parts k) _ _ _ _ _ (goes-on k) _ (omega arith) (omega arith)
-          (fresh-is _ _ _ _ _ _ _ _ _ _ _ _ _ _ _ _ _ (c .fresh2 .ensures)),
-      answer-none _ (goes-on k),
-    )
+          (fresh-is _ _ _ _ _ _ _ _ _ _ _ _ _ _ _ _ _ (c .fresh2 .ensures));
+      answers = answer-none _ (goes-on k);
+    }
 
 element-copy-out-index : tie.Need-element-copy-out-index
 element-copy-out-index c = search needs
@@ -113,12 +117,13 @@ returns-5 : tie.Need-returns-5
 returns-5 c =
     let m = moved c in
     let i = m .before .before in
-    let k = third (i .before .before .before) in (
-      λ place.
+    let k = third (i .before .before .before) in
+    record {
+      outcome = λ place.
           step-move (parts k) _ _ _ _ _ (goes-on k) _ (omega arith) _ _ _ (i .index .ensures .0) (m .moved-word .ensures _)
-          (frames-at (now (start (opcode k) .args .frames)) _) (fresh-is _ _ _ _ _ _ _ _ _ _ _ _ _ _ _ _ _ (c .fresh3 .ensures)),
-      answer-none _ (goes-on k),
-    )
+          (frames-at (now (start (opcode k) .args .frames)) _) (fresh-is _ _ _ _ _ _ _ _ _ _ _ _ _ _ _ _ _ (c .fresh3 .ensures));
+      answers = answer-none _ (goes-on k);
+    }
 
 pub step-spec : {M : Type 1} → statement M
 step-spec =

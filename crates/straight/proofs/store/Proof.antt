@@ -8,7 +8,7 @@ use lib.Dec.{ltb, eqb}
 use lib.ListN.{length}
 use borrow.Author.Needs.{needs}
 use Rattle.model.specs.Question.{_or_, q12}
-use Rattle.model.proofs.Logic.{told-no, told-yes, answer-of}
+use Rattle.model.proofs.Logic.{test-false, test-true, answer-of}
 use Rattle.straight.proofs.Steps.{number-of, store-other, store-closes, store-holds, part-is, part-length, row-words}
 use Rattle.straight.proofs.store.Statement.{statement}
 use Rattle.straight.proofs.store.Tie as tie
@@ -28,7 +28,7 @@ abbrev base : tie.After-row → ℕ
 base c = start c .args .s .base
 
 may-touch : (c : tie.After-row) → (not (ltb (base c) 256) or eqb (base c) (start c .args .x .v)) ≡ true
-may-touch c = let e = c .before .before in told-yes (e .before .may-touch .ensures) (e .if1 .left)
+may-touch c = let e = c .before .before in test-true (e .before .may-touch .ensures) (e .if1 .left)
 
 -- ---- the needs
 
@@ -42,7 +42,7 @@ returns : tie.Need-returns
 returns c =
     let t = c .before in
     let n = number-of (c .refused .ensures) in (
-      λ place registers views. store-other _ _ _ _ _ _ _ _ (told-no (t .before .may-touch .ensures) (t .if1 .taken)) _ n _,
+      λ place registers views. store-other _ _ _ _ _ _ _ _ (test-false (t .before .may-touch .ensures) (t .if1 .taken)) _ n _,
       answer-of _ q12 n,
     )
 

@@ -6,9 +6,9 @@ use native.Mathlib.Omega.{arith}
 use denote.Ref.{now}
 use lib.ListN.{length}
 use Rattle.model.specs.Question.{q11}
+use Rattle.model.specs.Table.{tablesOf, headOf}
 use Rattle.model.proofs.Logic.{answer-of}
 use borrow.Author.Needs.{needs}
-use Rattle.model.specs.Table.{tablesOf, headOf}
 use Rattle.table.proofs.Laws.{tables-size}
 use Rattle.straight.proofs.Steps.{number-of, touch-offset, touch-load, touch-store}
 use Rattle.straight.proofs.touch.Statement.{statement}
@@ -49,7 +49,7 @@ known : (c : tie.Else1) → Sized c
 known c =
     let s = sized c in
     let e = s .size .ensures .0 in
-    record { size = e; most = omega (arith, start s .pre .2 .small (type s)); offset = omega arith; row-exists = s .size .ensures .1 (omega arith) }
+    record { size = e; most = omega (arith, start s .pre .3 .small (type s)); offset = omega arith; row-exists = s .size .ensures .1 (omega arith) }
 
 -- ---- the needs
 
@@ -63,7 +63,7 @@ returns : tie.Need-returns
 returns c =
     let s = c .before .before .before in
     let n = number-of (c .refused .ensures) in
-    (λ place. touch-offset _ _ _ _ _ _ _ _ _ _ (size-is s _) (omega arith) _ n _, answer-of _ q11 n)
+    record { outcome = λ place. touch-offset _ _ _ _ _ _ _ _ _ _ (size-is s _) (omega arith) _ n _; answers = answer-of _ q11 n }
 
 look-requires : tie.Need-look-requires
 look-requires c κs = omega (arith, known (c .before .before .before .before .before))
@@ -76,12 +76,13 @@ returns-2 c =
     let t = c .before .before .before in
     let l = t .before in
     let i = inside l in
-    let s = sized i in (
-      λ place.
+    let s = sized i in
+    record {
+      outcome = λ place.
           c .load .ensures .0 place _ _ _ _ _ _
-          ∙ touch-load _ _ _ _ _ _ _ _ _ _ (size-is s _) (known i .offset) _ (l .look .ensures (now (start s .args .registers)) _) refl (t .if2 .taken),
-      c .load .ensures .1,
-    )
+          ∙ touch-load _ _ _ _ _ _ _ _ _ _ (size-is s _) (known i .offset) _ (l .look .ensures (now (start s .args .registers)) _) refl (t .if2 .taken);
+      answers = c .load .ensures .1;
+    }
 
 element-copy-out-value : tie.Need-element-copy-out-value
 element-copy-out-value c = search needs
@@ -94,12 +95,13 @@ returns-3 c =
     let e = stores (c .before) in
     let l = e .before in
     let i = inside l in
-    let s = sized i in (
-      λ place.
+    let s = sized i in
+    record {
+      outcome = λ place.
           c .store .ensures .0 place _ _
-          ∙ touch-store _ _ _ _ _ _ _ _ _ _ (size-is s _) (known i .offset) _ (l .look .ensures (now (start s .args .registers)) _) refl (e .if2 .left),
-      c .store .ensures .1,
-    )
+          ∙ touch-store _ _ _ _ _ _ _ _ _ _ (size-is s _) (known i .offset) _ (l .look .ensures (now (start s .args .registers)) _) refl (e .if2 .left);
+      answers = c .store .ensures .1;
+    }
 
 pub touch-spec : {M : Type 1} → statement M
 touch-spec =

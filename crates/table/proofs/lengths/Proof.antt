@@ -5,16 +5,16 @@ use native.Mathlib.Omega.{arith}
 use denote.Ref.{now}
 use lib.ListN.{length, length-set}
 use Rattle.model.specs.declared.Verdict.{Verdict}
-use Rattle.model.specs.Table.{rows, routineOf, startOf, blocksAsk, lengthsAsk}
+use Rattle.model.specs.Table.{rows, startOf, blocksAsk, lengthsAsk}
 use Rattle.table.proofs.Laws.{length-facts, start-none, start-more}
-use Rattle.table.proofs.Questions.{told-no, told-yes}
+use Rattle.table.proofs.Questions.{test-false, test-true}
 use Rattle.table.proofs.Answers.{lengths-start, lengths-on, lengths-stop, lengths-short, lengths-pass, Filled, filled-none, filled-more}
 use Rattle.table.proofs.lengths.Statement.{statement}
 use Rattle.table.proofs.lengths.Tie as tie
 
 abbrev Inv-loop : tie.InvT-loop
 Inv-loop blocks code starts₀ count total i₀ b₀ starts i b =
-    (lengthsAsk (routineOf blocks code) ≡ blocksAsk (routineOf blocks code) (rows blocks - b) b i)
+    (lengthsAsk blocks (length code) ≡ blocksAsk blocks (length code) (rows blocks - b) b i)
     × (b ≤ rows blocks)
     × (i ≤ length code)
     × (i ≡ startOf blocks b)
@@ -49,14 +49,14 @@ returns c =
     let k = c .before .before in
     let l = k .before .before .before .loop in (
       c .refused .ensures
-          ∙ lengths-stop _ _ (l .b) (l .i) _ (l .inv .0) (omega arith) _ (k .before .head .ensures) (told-no (k .length-well .ensures) (c .before .if1 .taken)),
+          ∙ lengths-stop _ _ (l .b) (l .i) _ (l .inv .0) (omega arith) _ (k .before .head .ensures) (test-false (k .length-well .ensures) (c .before .if1 .taken)),
       λ e z b h. absurd (omega (arith, ap (λ (v : Verdict). v .number) (c .refused .ensures))),
     )
 
 add-i : tie.Need-add-i Inv-loop μ-loop
 add-i c =
     let k = c .before in
-    omega (arith, length-facts (k .before .head .result) (k .before .before .before .loop .i) _ (told-yes (k .length-well .ensures) (c .if1 .left)))
+    omega (arith, length-facts (k .before .head .result) (k .before .before .before .loop .i) _ (test-true (k .length-well .ensures) (c .if1 .left)))
 
 add-b : tie.Need-add-b Inv-loop μ-loop
 add-b c = omega arith
@@ -76,7 +76,7 @@ loop-again c =
     let l = k .before .before .before .loop in
     let n = k .before .head .result in
     let blocks = now (k .before .before .before .before .before .before .args .blocks) in
-    let t = told-yes (k .length-well .ensures) (c .if1 .left) in
+    let t = test-true (k .length-well .ensures) (c .if1 .left) in
     let s : l .i + n ≡ startOf blocks (l .b + 1) = omega (arith, start-more blocks (l .b), k .before .head .ensures) in (
       lengths-on _ _ (l .b) (l .i) _ (l .inv .0) (omega arith) n (k .before .head .ensures) t,
       omega arith,

@@ -1,6 +1,6 @@
 -- `table::span_well` meets its contract, by the first part that is not well made.
 use mathlib.Core.Path.{_∙_}
-use Rattle.table.proofs.Questions.{told-no, told-yes}
+use Rattle.table.proofs.Questions.{test-false, test-true}
 use Rattle.table.proofs.Answers.{span-record, span-first, span-second}
 use borrow.Author.Needs.{needs}
 use Rattle.table.proofs.span_well.Statement.{statement}
@@ -25,7 +25,7 @@ returns-2 c =
     let m = c .before .before .before in
     let s = m .before .before in
     span-first _ _ _ (s .pre .0) (s .pre .1) _ (m .before .record-type .ensures .0) (m .if1 .left) _ (c .before .before .first-dependency .ensures .0)
-    (told-no (c .before .dependency-well .ensures) (c .if2 .taken))
+    (test-false (c .before .dependency-well .ensures) (c .if2 .taken))
 
 second-dependency-requires : tie.Need-second-dependency-requires
 second-dependency-requires c κs = search needs
@@ -40,7 +40,7 @@ returns-3 c =
     let s = m .before .before in
     c .dependency-well2 .ensures
     ∙ span-second _ _ _ (s .pre .0) (s .pre .1) _ (m .before .record-type .ensures .0) (m .if1 .left) _ (d .before .before .first-dependency .ensures .0)
-    (told-yes (d .before .dependency-well .ensures) (d .if2 .left)) _ (c .before .second-dependency .ensures .0)
+    (test-true (d .before .dependency-well .ensures) (d .if2 .left)) _ (c .before .second-dependency .ensures .0)
 
 pub span-well-spec : {M : Type 1} → statement M
 span-well-spec =

@@ -1,7 +1,6 @@
 -- `table::well_made` meets its contract, by the first part that is not well made.
-use mathlib.Core.Path.{_∙_}
 use native.Mathlib.Omega.{arith}
-use Rattle.table.proofs.Questions.{told-no, told-yes}
+use Rattle.table.proofs.Questions.{test-false, test-true}
 use Rattle.table.proofs.Answers.{well-any, well-kind, well-record, well-first, well-unused}
 use borrow.Author.Needs.{needs}
 use Rattle.table.proofs.well_made.Statement.{statement}
@@ -33,7 +32,7 @@ returns-4 c =
     let i = c .before .before .before in
     let k = i .before in
     well-record _ _ _ _ (k .before .kind .ensures .0) (k .if2 .left) _ (c .before .before .record-type .ensures .0)
-    (told-no (c .before .record-well .ensures) (c .if4 .taken))
+    (test-false (c .before .record-well .ensures) (c .if4 .taken))
 
 first-dependency-requires : tie.Need-first-dependency-requires
 first-dependency-requires c κs = search needs
@@ -46,8 +45,8 @@ returns-5 c =
     let m = c .before .before .before in
     let k = m .before .before .before .before in
     well-first _ _ _ _ (k .before .kind .ensures .0) (k .if2 .left) _ (m .before .before .record-type .ensures .0)
-    (told-yes (m .before .record-well .ensures) (m .if4 .left)) _ (c .before .before .first-dependency .ensures .0)
-    (told-no (c .before .dependency-well .ensures) (c .if5 .taken))
+    (test-true (m .before .record-well .ensures) (m .if4 .left)) _ (c .before .before .first-dependency .ensures .0)
+    (test-false (c .before .dependency-well .ensures) (c .if5 .taken))
 
 second-dependency-requires : tie.Need-second-dependency-requires
 second-dependency-requires c κs = search needs
@@ -59,8 +58,8 @@ returns-6 c =
     let i = m .before .before .before in
     let k = i .before in
     well-unused _ _ _ _ (k .before .kind .ensures .0) (k .if2 .left) _ (m .before .before .record-type .ensures .0)
-    (told-yes (m .before .record-well .ensures) (m .if4 .left)) _ (d .before .before .first-dependency .ensures .0)
-    (told-yes (d .before .dependency-well .ensures) (d .if5 .left)) (i .if3 .left) _ (c .second-dependency .ensures .0)
+    (test-true (m .before .record-well .ensures) (m .if4 .left)) _ (d .before .before .first-dependency .ensures .0)
+    (test-true (d .before .dependency-well .ensures) (d .if5 .left)) (i .if3 .left) _ (c .second-dependency .ensures .0)
 
 pub well-made-spec : {M : Type 1} → statement M
 well-made-spec =

@@ -23,18 +23,18 @@ cast-up-2 c =
     subst⁻¹ (λ (z : ℤ). T (nonNeg z) × Fits w64 (natAbs z)) (shifted-back (c .args .d) (c .fits .d))
     (tt, record { fits = omega (arith, raised-small (c .args .d) (c .fits .d)) })
 
-add-result : tie.Need-add-result
-add-result c =
-    subst⁻¹ (λ (z : ℤ). Fits w64 (c .args .x + natAbs z)) (shifted-back (c .args .d) (c .fits .d))
-    (record { fits = omega (arith, raised-small (c .args .d) (c .fits .d), c .fits .x) })
+cast-offset : tie.Need-cast-offset
+cast-offset c = search needs
 
-cast-result : tie.Need-cast-result
-cast-result c = search needs
+wrapping-add-u32-requires : tie.Need-wrapping-add-u32-requires
+wrapping-add-u32-requires c κs = search needs
 
 returns : tie.Need-returns
 returns c =
-    ap (λ (z : ℤ). (c .args .x + natAbs z) % 4294967296) (shifted-back (c .args .d) (c .fits .d))
-    ∙ moved-raised (c .args .x) (c .args .d) (c .fits .d)
+    let s = c .before in
+    c .wrapping-add-u32 .ensures
+    ∙ ap (λ (z : ℤ). (s .args .x + natAbs z % 4294967296) % 4294967296) (shifted-back (s .args .d) (s .fits .d))
+    ∙ moved-raised (s .args .x) (s .args .d) (s .fits .d)
 
 pub moved-spec : {M : Type 1} → statement M
-moved-spec = tie.close (tie.spec cast-up add-up cast-up-2 add-result cast-result returns)
+moved-spec = tie.close (tie.spec cast-up add-up cast-up-2 cast-offset wrapping-add-u32-requires returns)

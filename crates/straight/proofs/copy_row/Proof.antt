@@ -1,4 +1,4 @@
--- `straight::lay` meets its contract. The invariant: the words from place k on, laid, come to what all come to.
+-- `straight::copy_row` meets its contract. The invariant: the words from place k on, laid, come to what all come to.
 use mathlib.Core.Path.{_≡_, refl, sym, _∙_}
 use Prim.Native.Nat.{_+_, _-_, _≤_}
 use native.Mathlib.Omega.{arith}
@@ -6,8 +6,8 @@ use lib.ListN.{length, drop}
 use denote.Ref.{now}
 use Rattle.model.specs.Reading.{laidAt}
 use Rattle.straight.proofs.Steps.{laid-on, laid-end, laid-start}
-use Rattle.straight.proofs.lay.Statement.{statement}
-use Rattle.straight.proofs.lay.Tie as tie
+use Rattle.straight.proofs.copy_row.Statement.{statement}
+use Rattle.straight.proofs.copy_row.Tie as tie
 
 abbrev Inv-loop : tie.InvT-loop
 Inv-loop words₀ row first k₀ words k = (laidAt words₀ first row ≡ laidAt words (first + k) (drop k row)) × (k ≤ length row)
@@ -47,8 +47,8 @@ loop-again c =
 returns : tie.Need-returns Inv-loop μ-loop
 returns c = let a = c .before in sym (a .loop .inv .0 ∙ laid-end _ _ (now (a .before .args .row)) (a .loop .k) (omega arith))
 
-pub lay-spec : {M : Type 1} → statement M
-lay-spec =
+pub copy-row-spec : {M : Type 1} → statement M
+copy-row-spec =
     tie.close
     (tie.spec
     Inv-loop

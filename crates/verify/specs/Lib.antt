@@ -1,2 +1,2 @@
 -- Definitions of the crate.
-pub mod Entry
+pub mod Blocks

@@ -1,0 +1,93 @@
+-- `branch::fork` meets its contract: the taken edge, then the untaken one.
+use mathlib.Core.Path.{refl}
+use denote.Ref.{now}
+use Rattle.model.specs.Question.{q14, q15}
+use Rattle.model.proofs.Logic.{answer-of}
+use borrow.Author.Needs.{needs}
+use borrow.Author.Tests.{not-true, not-false}
+use Rattle.branch.proofs.Ends.{fork-taken, fork-untaken, fork-both}
+use Rattle.branch.proofs.fork.Statement.{statement}
+use Rattle.branch.proofs.fork.Tie as tie
+
+-- ---- places: the taken edge asked, and past it
+
+abbrev index : tie.After-row-fits → tie.After-index
+index c = c .before .before
+
+abbrev start : tie.After-row-fits → tie.Start
+start c = index c .before .before .before .before
+
+abbrev past : tie.After-row-fits2 → tie.Else1
+past c = c .before .before
+
+-- ---- the needs
+
+index-requires : tie.Need-index-requires
+index-requires c κs = search needs
+
+mul-words : tie.Need-mul-words
+mul-words c = search needs
+
+element-write-words : tie.Need-element-write-words
+element-write-words c = search needs
+
+row-fits-requires : tie.Need-row-fits-requires
+row-fits-requires c κs = search needs
+
+returns : tie.Need-returns
+returns c =
+    let f = c .before in
+    let s = start f .args in (
+      λ place types.
+          fork-taken _ _ _ (now (s .words)) (now (s .frames)) (now (s .constants)) _ (now (s .untaken)) (s .t) _ (index f .index .ensures .0) _
+          (f .row-fits .ensures types) (not-true _ (c .if1 .taken)),
+      answer-of _ q14 refl,
+    )
+
+mul-words-2 : tie.Need-mul-words-2
+mul-words-2 c = search needs
+
+element-write-words-2 : tie.Need-element-write-words-2
+element-write-words-2 c = search needs
+
+row-fits-requires-2 : tie.Need-row-fits-requires-2
+row-fits-requires-2 c κs = search needs
+
+returns-2 : tie.Need-returns-2
+returns-2 c =
+    let h = c .before in
+    let e = past h in
+    let f = e .before in
+    let s = start f .args in (
+      λ place types.
+          fork-untaken _ _ _ (now (s .words)) (now (s .frames)) (now (s .constants)) _ _ (s .t) _ (index f .index .ensures .0) _
+          (f .row-fits .ensures types) (not-false _ (e .if1 .left)) _ (h .row-fits2 .ensures types) (not-true _ (c .if2 .taken)),
+      answer-of _ q15 refl,
+    )
+
+returns-3 : tie.Need-returns-3
+returns-3 c =
+    let h = c .before in
+    let e = past h in
+    let f = e .before in
+    let s = start f .args in (
+      λ place types.
+          fork-both _ _ _ (now (s .words)) (now (s .frames)) (now (s .constants)) _ _ (s .t) _ (index f .index .ensures .0) _
+          (f .row-fits .ensures types) (not-false _ (e .if1 .left)) _ (h .row-fits2 .ensures types) (not-false _ (c .if2 .left)),
+      refl,
+    )
+
+pub fork-spec : {M : Type 1} → statement M
+fork-spec =
+    tie.close
+    (tie.spec
+    index-requires
+    mul-words
+    element-write-words
+    row-fits-requires
+    returns
+    mul-words-2
+    element-write-words-2
+    row-fits-requires-2
+    returns-2
+    returns-3)

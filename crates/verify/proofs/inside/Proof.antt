@@ -1,0 +1,110 @@
+-- `verify::inside` meets its contract. The invariant: the instructions from j on come to what all come to.
+use mathlib.Core.Path.{_≡_, refl}
+use Prim.Native.Nat.{_+_, _-_, _<_}
+use native.Mathlib.Omega.{arith}
+use lib.ListN.{length}
+use denote.Ref.{now}
+use Rattle.model.specs.Table.{tablesOf}
+use Rattle.straight.specs.State.{reading}
+use Rattle.verify.specs.Blocks.{begun}
+use Rattle.verify.proofs.Blocks.{InsideLeft, inside-begins, inside-on, inside-stops, inside-ends}
+use Rattle.verify.proofs.inside.Statement.{statement}
+use Rattle.verify.proofs.inside.Tie as tie
+
+abbrev Inv-loop : tie.InvT-loop
+Inv-loop rows types tags registers₀ words₀ frames₀ constants₀ part views₀ fields₀ s₀ last j₀ registers words frames constants views fields s j =
+    InsideLeft (tablesOf types tags) part (begun registers₀ words₀ frames₀ constants₀)
+    (reading registers words frames constants views fields (s .since) (s .base)) (s .number) j
+
+abbrev μ-loop : tie.MeasureT-loop
+μ-loop rows types tags registers₀ words₀ frames₀ constants₀ part views₀ fields₀ s₀ last j₀ registers words frames constants views fields s j =
+    length part - j
+
+-- ---- places: a round of the loop, the instruction read
+
+abbrev start : tie.At-loop Inv-loop μ-loop → tie.Start Inv-loop μ-loop
+start c = c .before .before .before .before
+
+abbrev inside : tie.After-fields Inv-loop μ-loop → tie.In-loop Inv-loop μ-loop
+inside c = c .before .before .before .before .before .before .before
+
+abbrev round : tie.After-read-inside Inv-loop μ-loop → tie.At-loop Inv-loop μ-loop
+round c = inside (c .before) .before
+
+before-last : (c : tie.After-read-inside Inv-loop μ-loop) → round c .loop .j + 1 < length (now (start (round c) .args .part))
+before-last c = omega (arith, inside (c .before) .loop-test)
+
+-- ---- the needs
+
+sub-last : tie.Need-sub-last Inv-loop μ-loop
+sub-last c = omega arith
+
+loop-holds : tie.Need-loop-holds Inv-loop μ-loop
+loop-holds c = inside-begins _ _ _ (omega arith)
+
+mul-word : tie.Need-mul-word Inv-loop μ-loop
+mul-word c = omega arith
+
+shared-slice-read-word : tie.Need-shared-slice-read-word Inv-loop μ-loop
+shared-slice-read-word c = omega arith
+
+add-g : tie.Need-add-g Inv-loop μ-loop
+add-g c = omega arith
+
+read-inside-requires : tie.Need-read-inside-requires Inv-loop μ-loop
+read-inside-requires c κs =
+    let r = inside c .before in
+    let p = start r .pre in
+    (p .0, omega arith, r .loop .inv .none, p .1)
+
+returns : tie.Need-returns Inv-loop μ-loop
+returns c =
+    let e = c .before .before in
+    let r = round e in
+    let s = e .read-inside .ensures in (
+      λ P b first B. record {
+        views = _;
+        fields = _;
+        since = _;
+        rest = inside-stops (r .loop .inv) _ _ (before-last e) (λ P b. s P b .outcome) (c .if1 .taken) P b first B;
+        answers = s P b .answers;
+      },
+      record { inside = omega (arith, before-last e); end = λ z. absurd (c .if1 .taken z) },
+    )
+
+add-j : tie.Need-add-j Inv-loop μ-loop
+add-j c = omega arith
+
+loop-less : tie.Need-loop-less Inv-loop μ-loop
+loop-less c = omega arith
+
+loop-again : tie.Need-loop-again Inv-loop μ-loop
+loop-again c =
+    let e = c .before .before in
+    inside-on (round e .loop .inv) _ _ (before-last e) (λ P b. e .read-inside .ensures P b .outcome) (c .if1 .left)
+
+returns-2 : tie.Need-returns-2 Inv-loop μ-loop
+returns-2 c =
+    let r = c .before in
+    let e : r .loop .j + 1 ≡ length (now (start r .args .part)) = omega arith in (
+      λ P b first B. record { views = _; fields = _; since = _; rest = inside-ends (r .loop .inv) e P b first B; answers = refl },
+      record { inside = omega arith; end = λ z. e },
+    )
+
+pub inside-spec : {M : Type 1} → statement M
+inside-spec =
+    tie.close
+    (tie.spec
+    Inv-loop
+    μ-loop
+    sub-last
+    loop-holds
+    mul-word
+    shared-slice-read-word
+    add-g
+    read-inside-requires
+    returns
+    add-j
+    loop-less
+    loop-again
+    returns-2)
