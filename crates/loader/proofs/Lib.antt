@@ -1,3 +1,4 @@
 pub mod Contracts
+pub mod Answered
 pub mod Delivered
 pub mod Possible

@@ -1,18 +1,19 @@
 -- The assumptions of Delivered can be met: what passed the definitions' checks is Passed by the answers of the definitions, and
 -- wherever one of their calls leads, a list of calls leads too.
-use mathlib.Core.Path.{_≡_, refl, sym, ap, _∙_}
-use mathlib.Core.Bool.{true}
+use mathlib.Core.Path.{_≡_, refl}
+use mathlib.Core.Logic.{_↔_}
 use mathlib.Core.List.{List}
 use Prim.Native.Nat.{ℕ}
 use Rattle.model.specs.declared.RunAnswer.{RunAnswer}
-use Rattle.model.specs.Table.{routineOf, Code}
+use Rattle.model.specs.Table.{Code}
 use Rattle.model.specs.Machine.{run, returned, Ready}
 use Rattle.model.specs.Check.{check}
 use Rattle.model.specs.Turns.{Task, World, Standing, waiting, done, Call, turn, checking, checkingMemory, checkingEntry, running, turnRun, turned}
 use Rattle.model.specs.Turns.{afterCall, Allowed}
+use Rattle.model.specs.Exactness.{ShowsNothing}
 use Rattle.model.specs.Safety.{Checked}
 use Rattle.model.specs.Cases.{plotTypes, plotTags}
-use Rattle.model.proofs.RunCalls.{opening, run-unopened, run-shows}
+use Rattle.model.proofs.RunEnds.{run-exact}
 use Rattle.model.proofs.Example.{allocations, memory, tasks, checked}
 use Rattle.loader.specs.Delivery.{RunGave, Passed, Calls, checked as check-made, turned as turn-made, ran}
 
@@ -45,15 +46,11 @@ module _ (types tags allocations memory : List ℕ) (n : ℕ) (tasks : ℕ → T
       let a = run C (w .memory) g budget in
       ran C g budget (returned a) (a .memory) p o (refl, refl)
 
--- The answer of a run of other code shows that nothing was carried out: by the number of an opening question, or by its place.
-module _ (C : Code) (g : Ready) (budget : ℕ) (w : World) (a : RunAnswer) (left : List ℕ) (q : RunGave C (w .memory) g budget a left) where
-  pub allowed-by-number : opening (a .number) ≡ true → Allowed (running C g budget) w
-  allowed-by-number e = run-unopened C (w .memory) g budget (ap (λ (x : RunAnswer). opening (x .number)) (sym (q .0)) ∙ e)
-
-  pub allowed-by-place : a .finished ≡ 0 → a .index ≡ routineOf C .start (g .block) → Allowed (running C g budget) w
-  allowed-by-place f i =
-      run-shows C (w .memory) g budget (ap (λ (x : RunAnswer). x .finished) (sym (q .0)) ∙ f)
-      (ap (λ (x : RunAnswer). x .index) (sym (q .0)) ∙ i)
+-- A run of other code is allowed exactly when its answer shows that nothing was carried out: by the number of an opening question, or by
+-- its place.
+pub allowed-shows : (C : Code) (g : Ready) (budget : ℕ) (w : World) (a : RunAnswer) (left : List ℕ) → RunGave C (w .memory) g budget a left
+    → Allowed (running C g budget) w ↔ ShowsNothing C (w .memory) g budget a
+allowed-shows C g budget w a left q = rw (q .0) (run-exact C (w .memory) g budget .nothing)
 
 -- two routines over two plots have passed
 pub example-passed : Passed plotTypes plotTags allocations memory 2 tasks

@@ -1,6 +1,7 @@
--- Demand 3 of the public calls: of every list of calls that were made, all of it. Nothing here but the statement; it is proved in
--- proofs/Delivered.antt.
+-- The three demands of the public calls: what an answer says, and, of every list of calls that were made, all of demand 3. Nothing here
+-- but the statements; Answered is proved in proofs/Answered.antt, Delivered in proofs/Delivered.antt.
 use mathlib.Core.Path.{_≡_}
+use mathlib.Core.Logic.{_↔_}
 use mathlib.Core.Bool.{true}
 use mathlib.Core.List.{List}
 use Prim.Native.Nat.{ℕ, _<_}
@@ -8,11 +9,13 @@ use lib.Dec.{eqb}
 use lib.ListN.{length}
 use Rattle.model.specs.declared.Verdict.{Verdict}
 use Rattle.model.specs.declared.RunAnswer.{RunAnswer}
-use Rattle.model.specs.Question.{_or_}
-use Rattle.model.specs.Table.{Code}
-use Rattle.model.specs.Machine.{State, run, returned, Ready, ready}
+use Rattle.model.specs.Question.{_or_, Question, numberOf, Refusal, refusing, FirstRefused}
+use Rattle.model.specs.Table.{Code, Routine, routineOf}
+use Rattle.model.specs.Machine.{State, indexOf, step, halts, faults, runQuestions, run, returned, Ready, ready}
 use Rattle.model.specs.Check.{check}
 use Rattle.model.specs.MemoryCheck.{memoryCheck, entryCheck}
+use Rattle.model.specs.Faults.{isOpening, isFault, Through}
+use Rattle.model.specs.Exactness.{Accepts, CheckNo, MemoryPasses, MemoryNo, EntryPasses, EntryNo, Finishes}
 use Rattle.model.specs.Turns.{Task, waiting, World, running, settled, standingBy, atStart, Allowed}
 use Rattle.model.specs.Safety.{AllFit, Visits, TurnSafe}
 
@@ -29,6 +32,76 @@ EntryCheckGave types tags allocations memory C g v left = (v ≡ entryCheck type
 
 abbrev pub RunGave : Code → (memory : List ℕ) → Ready → (budget : ℕ) → RunAnswer → (left : List ℕ) → Type 0
 RunGave C memory g budget a left = (a ≡ returned (run C memory g budget)) × (left ≡ run C memory g budget .memory)
+
+-- ---- demands 1 and 2: what the answer of a call says, whatever it was handed
+
+-- the answer of a run, with the memory that it left, is that of a state
+pub record Shows (P : Routine) (n : ℕ) (s : State) (a : RunAnswer) (left : List ℕ) : Type 0 where
+  pub number : a .number ≡ n
+  pub block : a .block ≡ s .block
+  pub index : a .index ≡ indexOf P s
+  pub finished : a .finished ≡ s .finished
+  pub registers : a .registers ≡ s .registers
+  pub memory : left ≡ s .memory
+
+module _ (C : Code) (memory : List ℕ) (g : Ready) (budget : ℕ) (a : RunAnswer) (left : List ℕ) where
+  abbrev pub P : Routine
+  P = routineOf C
+
+  -- refused before its first instruction: the first no and its place, everything else as it was handed in
+  pub record RefusalLeft : Type 0 where
+    pub refusal : Refusal
+    pub first : FirstRefused refusal (runQuestions C memory (g .block))
+    pub number : a .number ≡ numberOf (refusal .question)
+    pub place : (a .block ≡ refusal .first) × (a .index ≡ refusal .second)
+    pub finished : a .finished ≡ 0
+    pub registers : a .registers ≡ g .registers
+    pub unchanged : left ≡ memory
+
+  -- 'a run that faults leaves memory and registers as they were before the faulting instruction'
+  pub record FaultLeft : Type 0 where
+    pub question : Question
+    pub state : State
+    pub through : Through C memory g budget state
+    pub fault : step P state ≡ faults question state
+    pub shows : Shows P (numberOf question) state a left
+
+  pub record PauseLeft : Type 0 where
+    pub state : State
+    pub through : Through C memory g budget state
+    pub finished : state .finished ≡ budget
+    pub first : state .offset ≡ 0
+    pub shows : Shows P 40 state a left
+
+  pub record HaltLeft : Type 0 where
+    pub state : State
+    pub last : State
+    pub through : Through C memory g budget state
+    pub halt : step P state ≡ halts last
+    pub shows : Shows P 0 last a left
+
+  -- one of the four, by the number
+  pub record RunSays : Type 0 where
+    pub refused : isOpening (a .number) ≡ true → RefusalLeft
+    pub faulted : isFault (a .number) ≡ true → FaultLeft
+    pub paused : a .number ≡ 40 → PauseLeft
+    pub pausedExactly : (a .number ≡ 40) ↔ Finishes C memory g budget
+    pub halted : a .number ≡ 0 → HaltLeft
+
+pub record Answered : Type 0 where
+  pub checks : (types tags : List ℕ) (C : Code) (v : Verdict) → CheckGave types tags C v
+      → ((v .number ≡ 0) ↔ Accepts types tags C) × ((r : Refusal) → (v ≡ refusing r) ↔ CheckNo types tags C r)
+  pub memoryChecks : (types tags allocations memory : List ℕ) (v : Verdict) (left : List ℕ) → MemoryCheckGave types tags allocations memory v left
+      → ((v .number ≡ 0) ↔ MemoryPasses types tags allocations memory)
+      × ((r : Refusal) → (v ≡ refusing r) ↔ MemoryNo types tags allocations memory r) × (left ≡ memory)
+  pub entryChecks : (types tags allocations memory : List ℕ) (C : Code) (g : Ready) (v : Verdict) (left : List ℕ)
+      → EntryCheckGave types tags allocations memory C g v left
+      → ((v .number ≡ 0) ↔ EntryPasses types tags allocations memory C g)
+      × ((r : Refusal) → (v ≡ refusing r) ↔ EntryNo types tags allocations memory C g r) × (left ≡ memory)
+  pub runs : (C : Code) (memory : List ℕ) (g : Ready) (budget : ℕ) (a : RunAnswer) (left : List ℕ) → RunGave C memory g budget a left
+      → RunSays C memory g budget a left
+
+-- ---- demand 3
 
 abbrev pub with : World → List ℕ → World
 with w left = record { memory = left; standing = w .standing }

@@ -18,7 +18,7 @@ use Rattle.model.specs.Machine.{Plain, load, store, End, Instruction, pl
 use Rattle.model.specs.Machine.{memoryAfter, Next, stop, enter, next, State, goes, halts, after, atHalt, entering, leave, perform, step}
 use Rattle.model.specs.Machine.{indexOf, carryOut, formAsk}
 use Rattle.model.specs.Reading.{Reading, entry, isOpen}
-use Rattle.model.specs.Check.{onRecord, readPlain, readInstruction, readAt, readOn, blockAsk, readingAt, referenceAfter, given, noAt, readEnd}
+use Rattle.model.specs.Check.{onRecord, readPlain, readInstruction, readAt, readOn, blockAsk, readingAt, referenceIn, noAt, readEnd}
 use Rattle.model.proofs.Logic.{byTest, byEqual, ask-ok, then-ok, passed-then, ok-then, ok-same, not-ok, not-true}
 use Rattle.model.proofs.Inversion.{OnRecord, record-ok}
 use Rattle.model.proofs.Tidy.{Tidy, plain-tidy, entry-tidy}
@@ -215,14 +215,17 @@ module _ (𝒯 : Tables) (Is : Allocation) (memory₀ : List ℕ) (narrow : leng
     -- the access through register b at offset c is to a field of the record that the check says
     pub record Field (s : State) (b c : ℕ) : Type 0 where
       pub type : ℕ
-      pub said : given 𝒯 P (s .block) (s .offset) b ≡ To type
+      pub exists : s .block < P .count
+      pub within : s .offset < P .long (s .block)
+      pub reading : Reading
+      pub reads : readingAt 𝒯 P (s .block) (s .offset) ≡ ok reading
+      pub said : referenceIn 𝒯 reading b ≡ To type
       pub base : Is (reg (s .registers) b) type
       pub below : c < 𝒯 .size type
       pub unwrapped : sum (reg (s .registers) b) c ≡ reg (s .registers) b + c
 
     field-ok : (s : State) (a : At s) (b c : ℕ) (st' : Reading) (k : ℕ → Outcome Reading) → b < 8
         → onRecord 𝒯 (noAt 𝒯 P (s .block) (s .offset)) (a .reading) b c k ≡ ok st' → Field s b c
-    unfolding given referenceAfter
     field-ok s a b c st' k h q =
         let R = record-ok 𝒯 _ (a .reading) b c st' k q in
         let ρ = valuation P (s .block) (a .origin) in
@@ -230,7 +233,11 @@ module _ (𝒯 : Tables) (Is : Allocation) (memory₀ : List ℕ) (narrow : leng
         (a .tidy) (a .mirrors) h (R .reference) (R .below) in
         record {
           type = R .type;
-          said = rw (a .reads) (R .reference);
+          exists = a .exists;
+          within = a .within;
+          reading = a .reading;
+          reads = a .reads;
+          said = R .reference;
           base = rw (C .value) (C .base);
           below = R .below;
           unwrapped = C .at ∙ ap (λ (x : ℕ). x + c) (sym (C .value));
@@ -240,8 +247,8 @@ module _ (𝒯 : Tables) (Is : Allocation) (memory₀ : List ℕ) (narrow : leng
     unfolding readInstruction formAsk readPlain
     load-field s t a b c e =
         let (st', q) = passed-at s t in
-        let f : b < 8 = rw e at (decode-fine (getD (P .part (s .block)) (s .offset) 0)) in
-        field-ok s t b c st' _ f (ask-ok _ _ _ (rw e at q) .1)
+        let f : (a < 8) × (b < 8) = rw e at (decode-fine (getD (P .part (s .block)) (s .offset) 0)) in
+        field-ok s t b c st' _ (f .1) (ask-ok _ _ _ (rw e at q) .1)
 
     pub store-field : (s : State) → At s → (a b c : ℕ) → instructionAt P (s .block) (s .offset) ≡ plain (store a b c) → Field s b c
     unfolding readInstruction formAsk readPlain

@@ -4,6 +4,7 @@ use Rattle.model.specs.Word.{product}
 use Rattle.model.specs.Types.{typeOf, rename}
 use Rattle.model.specs.Table.{rowOf, tablesOf, startOf, routineOf, typeLengthsAsk, codeLengthsAsk, countAsk, wellMade, fieldWell, fieldsAsk}
 use Rattle.model.specs.Table.{tagAsk, typesAsk, blocksAsk, lengthsAsk, annotationWell, annotationAsk, annotationsAsk, startAsk, memoryLengthAsk}
+use Rattle.model.specs.Table.{tablesAsk}
 use Rattle.model.specs.Allocation.{isAllocated, laid, rowsAsk, allocationsAsk}
 use Rattle.model.specs.Machine.{formed, byOpcode, decode, effect, addressed, registersAfter, memoryAfter, next, targetsExist, leave, perform}
 use Rattle.model.specs.Machine.{step, onward, finish, steps, runBlocks, answerOf, runAsk, opened, run, carryOut, formAsk}
@@ -11,7 +12,6 @@ use Rattle.model.specs.Reading.{typed, constantsOf, some, sameDep, isSam
 use Rattle.model.specs.Reading.{isMaybe, isTagged, isPresent, isSpan, fits, rowFits, firstTag, referenceOf, laidAt, zeros, upFrom, entry, born}
 use Rattle.model.specs.Reading.{fresh, moves, movedWord, loaded, viewed, look, stored, notZero, below, notBelow, taken, untaken}
 use Rattle.model.specs.Check.{withReference, onRecord, readPlain, readEdges, readInstruction, readOn, blockAsk, judge, checkAsk, check, readEnd}
-use Rattle.model.specs.Check.{tablesAsk}
 use Rattle.model.specs.MemoryCheck.{whenTrue, unlessTrue, startsTest, runTest, rankTest, tagTest, meets, fieldAsk, recordsAsk, registerAsk}
 use Rattle.model.specs.MemoryCheck.{layoutAsk, memoryAsk, memoryCheck, entryAsk, entryCheck, routineAsk}
 use Rattle.model.specs.Turns.{turned, afterCall, atStart}

@@ -16,13 +16,13 @@ use Rattle.model.specs.Types.{Dep, name, Ty, same, depOf, ofKind, typeOf
 use Rattle.model.specs.Table.{Tables, Routine}
 use Rattle.model.specs.Meaning.{Allocation, RecordMeets, RegistersMeet}
 use Rattle.model.specs.Machine.{End, halt, jump, ifEqual, ifLess, reg, Next, stop, enter, next, targetsExist}
-use Rattle.model.specs.Reading.{Values, birthplace, typed, knownEqual, Reading, laidAt, zeros, upFrom, entry, learned, rekinded, notZero, below}
-use Rattle.model.specs.Reading.{notBelow, taken, untaken}
+use Rattle.model.specs.Reading.{Values, birthplace, typed, knownEqual, Reading, upFrom, entry, learned, rekinded, notZero, below, notBelow}
+use Rattle.model.specs.Reading.{taken, untaken}
 use Rattle.model.specs.Check.{valueIn, edgeMeets, readEdges}
 use Rattle.model.proofs.Logic.{byTest, byEqual, byLess, either, and-true, ask-ok}
-use Rattle.model.proofs.Lists.{set-every, getD-map, getD-past, length-laid, laid-above, laid-at, zeros-at, length-zeros, upFrom-at, length-upFrom}
+use Rattle.model.proofs.Lists.{set-every, getD-map, getD-past, zeros-at, upFrom-at, length-upFrom}
 use Rattle.model.proofs.RulesDecide.{equal-known}
-use Rattle.model.proofs.Tidy.{Tidy}
+use Rattle.model.proofs.Tidy.{Tidy, entry-word}
 use Rattle.model.proofs.Mean.{kinded, TyBelow, Rank, Mean, mean, mean-rename}
 use Rattle.model.proofs.Lawful.{Lawful, Tabled}
 use Rattle.model.proofs.TableLaws.{Annotated}
@@ -50,13 +50,6 @@ module _ (𝒯 : Tables) (Is : Allocation) where
 module _ (𝒯 : Tables) (Is : Allocation) (memory₀ : List ℕ) (narrow : length memory₀ < 2 ^ 32) (law : Lawful 𝒯 Is (length memory₀))
     (tab : Tabled 𝒯 Is) (ρ : ℕ → ℕ) where
   -- ---- entry
-
-  entry-word : (annotation : List ℕ) (j : ℕ) → length annotation ≤ 8 → getD (laidAt (zeros 256) 0 annotation) j 0 ≡ getD annotation j 0
-  entry-word annotation j h =
-      byLess j (length annotation)
-      (λ l. ap (λ (x : ℕ). getD (laidAt (zeros 256) 0 annotation) x 0) (sym (zero-add j))
-      ∙ laid-at (zeros 256) 0 annotation j l (let e = length-zeros 256 in omega arith))
-      (λ l. laid-above (zeros 256) 0 annotation j (omega arith) ∙ zeros-at 256 j ∙ sym (getD-past annotation j 0 l))
 
   pub entry-ok : (annotation r m : List ℕ) → length annotation ≤ 8 → ((i : ℕ) → i < 8 → TyBelow 8 (typeOf (getD annotation i 0)))
       → ((i : ℕ) → i < 8 → ρ i ≡ getD r i 0)

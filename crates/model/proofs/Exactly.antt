@@ -1,21 +1,21 @@
 -- A routine is accepted exactly when at every instruction no question has a no; the verdict otherwise names the first.
-use mathlib.Core.Path.{_≡_, refl, sym, ap, subst, _∙_}
+use mathlib.Core.Path.{_≡_, refl, sym, ap, _∙_}
 use mathlib.Core.Logic.{_⊎_, inl, inr, _↔_}
-use mathlib.Core.Bool.{Bool, true, false, false≢true}
-use mathlib.Core.List.{List}
+use mathlib.Core.List.{List, [], _∷_}
 use Prim.Native.Nat.{ℕ, zero, suc, _+_, _≤_, _<_}
 use native.Mathlib.Omega.{arith}
-use native.Mathlib.Nat.{add-zero, zero-add}
 use lib.ListN.{length}
-use Rattle.model.specs.Question.{Refusal, refusing, Outcome, ok, refused, then, verdictOf}
+use Rattle.model.specs.Question.{Refusal, Outcome, ok, refused, then}
 use Rattle.model.specs.Table.{Tables, tablesOf, Routine, routineOf, typeLengthsAsk, codeLengthsAsk, typesAsk, lengthsAsk, annotationsAsk, Code}
-use Rattle.model.specs.Table.{rows}
+use Rattle.model.specs.Table.{rows, tableQuestions, tablesAsk}
 use Rattle.model.specs.Reading.{Reading, entry}
-use Rattle.model.specs.Check.{readAt, readOn, blockAsk, judge, readingAt, checkAsk, check, tableQuestions, tablesAsk}
-use Rattle.model.proofs.Logic.{byEqual, either, then-ok, ok-then, passed-then, then-refused, firstNo-ok, ok-firstNo, FirstNo, firstNo-refused}
-use Rattle.model.proofs.Logic.{all-passed, passed-all, AllPassed, FirstRefused, first-refused}
-use Rattle.model.proofs.Logic.{not-ok, ok-same, refused-same, verdict-ok, ok-verdict}
-use Rattle.model.proofs.BlockSound.{PassedAt, passed-block}
+use Rattle.model.specs.Check.{readAt, readOn, blockAsk, judge, readingAt, checkAsk, check}
+use Rattle.model.proofs.Logic.{byEqual, either, ok-then, passed-then, firstNo-ok, ok-firstNo, firstNo-refused}
+use Rattle.model.proofs.Logic.{all-passed, passed-all, first-refused}
+use Rattle.model.proofs.Logic.{not-ok, refused-same, verdict-ok, ok-verdict, verdict-refused, refused-then, refused-first, no-firstNo, no-then}
+use Rattle.model.proofs.Logic.{in-order-append}
+use Rattle.model.proofs.TableRules.{types-pass, pass-types, blocks-pass, pass-blocks, annotations-exactly}
+use Rattle.model.proofs.BlockSound.{passed-block}
 
 module _ (𝒯 : Tables) (P : Routine) where
   -- the questions put at an instruction, after those before it in its block
@@ -26,9 +26,23 @@ module _ (𝒯 : Tables) (P : Routine) where
   abbrev pub NoNo : ℕ → ℕ → Type 0
   NoNo b j = (st : Reading) × (questionsAt b j ≡ ok st)
 
+  pub record FirstAt (b : ℕ) (r : Refusal) : Type 0 where
+    pub offset : ℕ
+    pub within : offset < P .long b
+    pub here : questionsAt b offset ≡ refused r
+    pub before : (j : ℕ) → j < offset → NoNo b j
+
+  -- the instruction with the first no: every earlier one, in its block and in the blocks before, had none
+  pub record FirstNoOf (r : Refusal) : Type 0 where
+    pub block : ℕ
+    pub exists : block < P .count
+    pub inBlock : FirstAt block r
+    pub earlier : (b j : ℕ) → b < block → j < P .long b → NoNo b j
+
+module _ (𝒯 : Tables) (P : Routine) where
   -- ---- accepted: no question has a no anywhere
 
-  block-passes : (b n j : ℕ) (st : Reading) → readingAt 𝒯 P b j ≡ ok st → ((i : ℕ) → j ≤ i → i < j + n → NoNo b i) → readOn 𝒯 P b n j st ≡ ok tt
+  block-passes : (b n j : ℕ) (st : Reading) → readingAt 𝒯 P b j ≡ ok st → ((i : ℕ) → j ≤ i → i < j + n → NoNo 𝒯 P b i) → readOn 𝒯 P b n j st ≡ ok tt
   unfolding readOn readingAt
   block-passes b zero j st r h = refl
   block-passes b (suc n) j st r h =
@@ -36,7 +50,7 @@ module _ (𝒯 : Tables) (P : Routine) where
       let p : readAt 𝒯 P b j st ≡ ok st' = sym (ok-then _ _ st r) ∙ q in
       ok-then _ _ st' p ∙ block-passes b n (suc j) st' q (λ i lo hi. h i (omega arith) (omega arith))
 
-  pub judge-exactly : (judge 𝒯 P ≡ ok tt) ↔ ((b j : ℕ) → b < P .count → j < P .long b → NoNo b j)
+  pub judge-exactly : (judge 𝒯 P ≡ ok tt) ↔ ((b j : ℕ) → b < P .count → j < P .long b → NoNo 𝒯 P b j)
   unfolding judge blockAsk readingAt
   judge-exactly = (
     λ q b j h l.
@@ -47,18 +61,12 @@ module _ (𝒯 : Tables) (P : Routine) where
 
   -- ---- refused: the first no, and none before it
 
-  pub record FirstAt (b : ℕ) (r : Refusal) : Type 0 where
-    pub offset : ℕ
-    pub within : offset < P .long b
-    pub here : questionsAt b offset ≡ refused r
-    pub before : (j : ℕ) → j < offset → NoNo b j
-
   record FirstFrom (b n j : ℕ) (r : Refusal) : Type 0 where
     offset : ℕ
     low : j ≤ offset
     high : offset < j + n
-    here : questionsAt b offset ≡ refused r
-    before : (i : ℕ) → j ≤ i → i < offset → NoNo b i
+    here : questionsAt 𝒯 P b offset ≡ refused r
+    before : (i : ℕ) → j ≤ i → i < offset → NoNo 𝒯 P b i
 
   block-refused : (b n j : ℕ) (st : Reading) (r : Refusal) → readingAt 𝒯 P b j ≡ ok st → readOn 𝒯 P b n j st ≡ refused r → FirstFrom b n j r
   unfolding readOn readingAt
@@ -66,10 +74,10 @@ module _ (𝒯 : Tables) (P : Routine) where
   block-refused b (suc n) j st r e q = go (readAt 𝒯 P b j st) refl (λ st' e' q'. block-refused b n (suc j) st' r e' q') q
     where
       go : (o : Outcome Reading) → readAt 𝒯 P b j st ≡ o
-          → ((st' : Reading) → questionsAt b j ≡ ok st' → readOn 𝒯 P b n (suc j) st' ≡ refused r → FirstFrom b n (suc j) r)
+          → ((st' : Reading) → questionsAt 𝒯 P b j ≡ ok st' → readOn 𝒯 P b n (suc j) st' ≡ refused r → FirstFrom b n (suc j) r)
           → then o (λ st'. readOn 𝒯 P b n (suc j) st') ≡ refused r → FirstFrom b (suc n) j r
       go (ok st') h rest q =
-          let asked-here : questionsAt b j ≡ ok st' = ok-then _ _ st e ∙ h in
+          let asked-here : questionsAt 𝒯 P b j ≡ ok st' = ok-then _ _ st e ∙ h in
           let F = rest st' asked-here (unfold then in q) in
           record {
             offset = F .offset;
@@ -87,14 +95,8 @@ module _ (𝒯 : Tables) (P : Routine) where
             before = λ i lo hi. absurd (omega arith);
           }
 
-  -- the instruction at which a judged routine is refused: every earlier one, in its block and in the blocks before, had no no
-  pub record FirstNoOf (r : Refusal) : Type 0 where
-    pub block : ℕ
-    pub exists : block < P .count
-    pub inBlock : FirstAt block r
-    pub earlier : (b j : ℕ) → b < block → j < P .long b → NoNo b j
-
-  pub judge-refused : (r : Refusal) → judge 𝒯 P ≡ refused r → FirstNoOf r
+  -- the instruction at which a judged routine is refused
+  pub judge-refused : (r : Refusal) → judge 𝒯 P ≡ refused r → FirstNoOf 𝒯 P r
   unfolding judge blockAsk readingAt
   judge-refused r q =
       let F = firstNo-refused _ 0 _ r q in
@@ -116,6 +118,17 @@ pub record Accepted (types tags : List ℕ) (C : Code) : Type 0 where
   pub annotations : annotationsAsk (rows types) (C .blocks) ≡ ok tt
   pub instructions : (b j : ℕ) → b < routineOf C .count → j < routineOf C .long b → NoNo (tablesOf types tags) (routineOf C) b j
 
+-- Q5 of tables without a no
+pub passed-lengths : (types tags : List ℕ) (C : Code) → tablesAsk types tags C ≡ ok tt → lengthsAsk (C .blocks) (length (C .code)) ≡ ok tt
+unfolding tablesAsk
+passed-lengths types tags C e = let (a, (c, (t, (l, rest)))) = all-passed (tableQuestions types tags C) e in l
+
+-- and Q1 to Q4 of the types
+pub passed-types : (types tags : List ℕ) (C : Code) → tablesAsk types tags C ≡ ok tt
+    → (typeLengthsAsk (length types) (length tags) ≡ ok tt) × (typesAsk types tags ≡ ok tt)
+unfolding tablesAsk
+passed-types types tags C e = let (a, (c, (t, rest))) = all-passed (tableQuestions types tags C) e in (a, t)
+
 pub check-exactly : (types tags : List ℕ) (C : Code) → (check types tags C .number ≡ 0) ↔ Accepted types tags C
 unfolding check checkAsk tablesAsk
 check-exactly types tags C = (
@@ -132,25 +145,3 @@ check-exactly types tags C = (
   λ A. let tables = passed-all (tableQuestions types tags C) (A .typeLengths, (A .codeLengths, (A .typeRows, (A .lengths, (A .annotations, tt))))) in
       ok-verdict _ (ok-then _ _ tt tables ∙ judge-exactly (tablesOf types tags) (routineOf C) .1 (A .instructions)),
 )
-
-module _ (types tags : List ℕ) (C : Code) where
-  -- the first no, and none before it: of the tables, or else of the instructions
-  pub data First (r : Refusal) : Type 0 where
-    tablesNo : FirstRefused r (tableQuestions types tags C) → First r
-    instructionNo : AllPassed (tableQuestions types tags C) → FirstNoOf (tablesOf types tags) (routineOf C) r → First r
-
-  first-of : (r : Refusal) → checkAsk types tags C ≡ refused r → First r
-  unfolding checkAsk tablesAsk
-  first-of r e =
-      either (then-refused _ _ r e) (λ t. tablesNo (first-refused (tableQuestions types tags C) r t))
-      (λ (t, e'). instructionNo (all-passed (tableQuestions types tags C) t) (judge-refused (tablesOf types tags) (routineOf C) r e'))
-
-  -- a check that does not give 0 names the first question with a no, and its place
-  pub check-refused : (check types tags C .number ≡ 0 → ⊥) → (r : Refusal) × (check types tags C ≡ refusing r) × First r
-  unfolding check verdictOf
-  check-refused z = go (checkAsk types tags C) refl z
-    where
-      go : (o : Outcome (Unit {0})) → checkAsk types tags C ≡ o → (verdictOf o .number ≡ 0 → ⊥)
-          → (r : Refusal) × (verdictOf (checkAsk types tags C) ≡ refusing r) × First r
-      go (ok u) q z = absurd (z refl)
-      go (refused r) q z = (r, rw q refl, first-of r q)

@@ -11,6 +11,8 @@ pub mod Unique
 pub mod Mean
 pub mod Lawful
 pub mod TableLaws
+pub mod TableRules
+pub mod AllocationRules
 pub mod Invariant
 pub mod FitsSound
 pub mod Decode
@@ -21,7 +23,16 @@ pub mod MachineLaws
 pub mod MeetsDecide
 pub mod RunSound
 pub mod RunCalls
+pub mod RunEnds
 pub mod Exactly
+pub mod ReadingStates
+pub mod ReadingDecides
+pub mod ReadingEdges
+pub mod ReadingBlocks
+pub mod ReadingLaws
+pub mod ReadingExample
+pub mod Exact
 pub mod Safe
 pub mod ChecksAgain
 pub mod Example
+pub mod Endings

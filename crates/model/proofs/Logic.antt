@@ -2,14 +2,16 @@
 use mathlib.Core.Path.{_≡_, refl, sym, ap, subst, _∙_}
 use mathlib.Core.Logic.{_⊎_, inl, inr, _↔_}
 use mathlib.Core.Bool.{Bool, true, false, not, false≢true}
-use mathlib.Core.List.{List, [], _∷_}
+use mathlib.Core.List.{List, [], _∷_, _++_}
 use Prim.Native.Nat.{ℕ, zero, suc, _+_, _-_, _≤_, _<_}
 use native.Mathlib.Omega.{arith}
 use lib.Dec.{ltb, leb, eqb}
 use borrow.Author.Tests.{eqb-true, eqb-false, eq-eqb, ne-eqb, ltb-true, ltb-false}
+use Rattle.model.specs.declared.Verdict.{Verdict}
 use Rattle.model.specs.Question.{_and_, _or_, pick, every, Question, numberOf, questions, withNumber, questionOf, isNumber, isAnswer, q1, q2}
 use Rattle.model.specs.Question.{q3, q4, q5, q6, q7, q8, q9, q10, q11, q12, q13, q14, q15, q16, q17, q18, q19, q20, q21, q22, Refusal, Outcome}
-use Rattle.model.specs.Question.{ok, refused, ask, then, firstNo, verdictOf, provided, inOrder}
+use Rattle.model.specs.Question.{ok, refused, ask, then, firstNo, verdictOf, provided, inOrder, AllPassed, FirstRefused, at-once, further}
+use Rattle.model.specs.Question.{FirstNo, refusing}
 
 -- ---- tests
 
@@ -128,11 +130,6 @@ unfolding then
 then-refused (ok u) k r e = inr (refl, e)
 then-refused (refused s) k r e = inl (ap {B = Outcome (Unit {0})} refused (refused-same e))
 
--- each row of questions has no no
-abbrev pub AllPassed : List (Outcome (Unit {0})) → Type 0
-AllPassed [] = Unit {0}
-AllPassed (q ∷ rest) = (q ≡ ok tt) × AllPassed rest
-
 pub all-passed : (qs : List (Outcome (Unit {0}))) → inOrder qs ≡ ok tt → AllPassed qs
 unfolding inOrder
 all-passed [] e = tt
@@ -142,11 +139,6 @@ pub passed-all : (qs : List (Outcome (Unit {0}))) → AllPassed qs → inOrder q
 unfolding inOrder
 passed-all [] h = refl
 passed-all (q ∷ rest) h = ok-then q _ tt (h .0) ∙ passed-all rest (h .1)
-
--- the first row of questions with a no: those before it have none
-pub data FirstRefused (r : Refusal) : List (Outcome (Unit {0})) → Type 0 where
-  at-once : {q : Outcome (Unit {0})} {rest : List (Outcome (Unit {0}))} → q ≡ refused r → FirstRefused r (q ∷ rest)
-  further : {q : Outcome (Unit {0})} {rest : List (Outcome (Unit {0}))} → q ≡ ok tt → FirstRefused r rest → FirstRefused r (q ∷ rest)
 
 pub first-refused : (qs : List (Outcome (Unit {0}))) (r : Refusal) → inOrder qs ≡ refused r → FirstRefused r qs
 unfolding inOrder
@@ -165,14 +157,6 @@ unfolding firstNo
 ok-firstNo zero i f h = refl
 ok-firstNo (suc n) i f h = ok-then (f i) _ tt (h i (omega arith) (omega arith)) ∙ ok-firstNo n (suc i) f (λ j lo hi. h j (omega arith) (omega arith))
 
--- the first row with a no: those before it have none
-pub record FirstNo (n i : ℕ) (f : ℕ → Outcome (Unit {0})) (r : Refusal) : Type 0 where
-  pub row : ℕ
-  pub low : i ≤ row
-  pub high : row < i + n
-  pub here : f row ≡ refused r
-  pub before : (j : ℕ) → i ≤ j → j < row → f j ≡ ok tt
-
 pub firstNo-refused : (n i : ℕ) (f : ℕ → Outcome (Unit {0})) (r : Refusal) → firstNo n i f ≡ refused r → FirstNo n i f r
 unfolding firstNo then
 firstNo-refused zero i f r e = absurd (not-ok (sym e))
@@ -190,6 +174,44 @@ firstNo-refused (suc n) i f r e = go (f i) refl (λ k. firstNo-refused n (suc i)
           before = λ j lo hi. byEqual j i (λ s. rw s h) (λ d. F .before j (omega arith) hi);
         }
     go (refused s) h rest e = record { row = i; low = omega arith; high = omega arith; here = h ∙ e; before = λ j lo hi. absurd (omega arith) }
+
+-- and back: the first no is what the rows of questions come to
+pub refused-then : {A B : Type 0} (o : Outcome A) (k : A → Outcome B) (r : Refusal) → o ≡ refused r → then o k ≡ refused r
+unfolding then
+refused-then o k r e = rw e
+
+pub no-then : (o p : Outcome (Unit {0})) (r : Refusal) → (then o (λ _. p) ≡ refused r) ↔ ((o ≡ refused r) ⊎ ((o ≡ ok tt) × (p ≡ refused r)))
+no-then o p r = (then-refused o _ r, λ h. either h (refused-then o _ r) (λ (e, q). ok-then o _ tt e ∙ q))
+
+-- rows of questions within rows of questions
+pub in-order-append : (qs more : List (Outcome (Unit {0}))) → inOrder (qs ++ more) ≡ then (inOrder qs) (λ _. inOrder more)
+unfolding inOrder then
+in-order-append [] more = refl
+in-order-append (q ∷ qs) more = go q (in-order-append qs more)
+  where
+    go : (o : Outcome (Unit {0})) → inOrder (qs ++ more) ≡ then (inOrder qs) (λ _. inOrder more)
+        → then o (λ _. inOrder (qs ++ more)) ≡ then (then o (λ _. inOrder qs)) (λ _. inOrder more)
+    go (ok u) e = e
+    go (refused r) e = refl
+
+pub refused-first : (qs : List (Outcome (Unit {0}))) (r : Refusal) → FirstRefused r qs → inOrder qs ≡ refused r
+unfolding inOrder
+refused-first qs r (at-once {q = q} e) = refused-then q _ r e
+refused-first qs r (further {q = q} {rest = rest} p F) = ok-then q _ tt p ∙ refused-first rest r F
+
+pub no-firstNo : (n i : ℕ) (f : ℕ → Outcome (Unit {0})) (r : Refusal) → FirstNo n i f r → firstNo n i f ≡ refused r
+unfolding firstNo
+no-firstNo zero i f r F = absurd (omega (arith, F .low, F .high))
+no-firstNo (suc n) i f r F =
+    byEqual (F .row) i (λ s. refused-then (f i) _ r (rw s at (F .here)))
+    (λ d. ok-then (f i) _ tt (F .before i (omega arith) (omega (arith, F .low)))
+    ∙ no-firstNo n (suc i) f r (record {
+      row = F .row;
+      low = omega (arith, F .low);
+      high = omega (arith, F .high);
+      here = F .here;
+      before = λ j lo hi. F .before j (omega arith) hi;
+    }))
 
 -- ---- numbers of questions
 
@@ -263,3 +285,23 @@ verdict-ok (refused r) e = absurd (no-number 0 none-zero (r .question) e)
 pub ok-verdict : (o : Outcome (Unit {0})) → o ≡ ok tt → verdictOf o .number ≡ 0
 unfolding verdictOf
 ok-verdict o e = rw e
+
+number-same : {q q' : Question} → numberOf q ≡ numberOf q' → q ≡ q'
+number-same {q = q} {q' = q'} e = sym (listed q) ∙ ap questionOf e ∙ listed q'
+
+-- a verdict is that of one refusal alone
+refusing-same : (r s : Refusal) → refusing r ≡ refusing s → r ≡ s
+refusing-same r s e =
+    let q : r .question ≡ s .question = number-same (ap (λ (v : Verdict). v .number) e) in
+    let a : r .first ≡ s .first = ap (λ (v : Verdict). v .first) e in
+    let b : r .second ≡ s .second = ap (λ (v : Verdict). v .second) e in
+    rw (q, a, b) refl
+
+-- a verdict names a refusal exactly when the questions come to it
+pub verdict-refused : (o : Outcome (Unit {0})) (r : Refusal) → (verdictOf o ≡ refusing r) ↔ (o ≡ refused r)
+unfolding verdictOf
+verdict-refused (ok u) r = (
+  λ e. absurd (no-number 0 none-zero (r .question) (sym (ap (λ (v : Verdict). v .number) e))),
+  λ e. absurd (not-ok (sym e)),
+)
+verdict-refused (refused s) r = (λ e. ap {B = Outcome (Unit {0})} refused (refusing-same s r e), λ e. ap refusing (refused-same e))

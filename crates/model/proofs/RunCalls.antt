@@ -1,22 +1,18 @@
 -- The public run: past its opening questions it is the machine's; what it leaves where nothing is carried out; and runs gone on with.
-use mathlib.Core.Path.{_≡_, refl, sym, ap, subst, _∙_}
-use mathlib.Core.Logic.{_⊎_, inl, inr}
-use mathlib.Core.Bool.{Bool, true, false, false≢true}
+use mathlib.Core.Path.{_≡_, refl, sym, ap, _∙_}
 use mathlib.Core.List.{List}
-use Prim.Native.Nat.{ℕ, zero, suc, _+_, _≤_, _<_}
+use Prim.Native.Nat.{ℕ, suc, _+_, _<_}
 use native.Mathlib.Omega.{arith}
 use native.Mathlib.Nat.{zero-add, add-zero}
-use lib.Dec.{ltb, leb, eqb}
 use lib.ListN.{length}
-use borrow.Author.Tests.{ltb-true, lt-ltb, le-leb}
-use Rattle.model.specs.Question.{_or_, Question, numberOf, questionOf, Outcome, ok, refused}
+use borrow.Author.Tests.{ltb-true, lt-ltb}
+use Rattle.model.specs.Question.{Question, numberOf, questionOf, Outcome, ok, refused}
 use Rattle.model.specs.Table.{Routine, routineOf, codeLengthsAsk, lengthsAsk, startAsk, memoryLengthAsk, Code}
-use Rattle.model.specs.Machine.{State, step, faults, indexOf, Passes, here, Ran, halted, paused, faulted, runBlocks, Run, answerAt, answerOf}
-use Rattle.model.specs.Machine.{runAsk, begin, opened, run, Ready, ready, runQuestions}
-use Rattle.model.proofs.Logic.{byTest, no-number, true-and, ask-ok, ok-ask, passed-then, ok-then, not-ok, all-passed, passed-all}
-use Rattle.model.proofs.TableLaws.{Sized}
-use Rattle.model.proofs.TableLaws.{sized, memory-length}
-use Rattle.model.proofs.MachineLaws.{OfCode, of-7, of-8, of-9, of-18, of-22, fault-asks, Visited, visited, index-below, Last, pausing, halting}
+use Rattle.model.specs.Machine.{State, indexOf, Passes, here, Ran, halted, paused, faulted, runBlocks, Run, answerAt, answerOf, runAsk, begin}
+use Rattle.model.specs.Machine.{opened, run, Ready, ready, runQuestions}
+use Rattle.model.proofs.Logic.{no-number, ask-ok, ok-ask, all-passed, passed-all}
+use Rattle.model.proofs.TableLaws.{Sized, sized}
+use Rattle.model.proofs.MachineLaws.{visited, index-below, Last, pausing, halting}
 use Rattle.model.proofs.MachineLaws.{faulting, blocks-last, halt-stays, resume, blocks-plus, later, laterRan, blocks-later}
 
 -- ---- the opening questions
@@ -59,10 +55,6 @@ run-index C memory g k q s p =
 
 -- ---- a run that carried nothing out
 
--- the numbers of the questions before the first instruction: Q1, Q5, Q16, Q17
-abbrev pub opening : ℕ → Bool
-opening n = eqb n 1 or (eqb n 5 or (eqb n 16 or eqb n 17))
-
 -- what a run that carried nothing out leaves
 pub record Untouched (a : Run) (r m : List ℕ) : Type 0 where
   pub registers : a .registers ≡ r
@@ -93,72 +85,6 @@ module _ (C : Code) (memory : List ℕ) (g : Ready) (k : ℕ) where
           let O = opens C memory (g .block) q in
           last-untouched _ (sized C (O .lengths)) (O .exists) (run-last C memory g k O) e
       go (refused f) q e = record { registers = refl; memory = refl }
-
-  last-shows : (x : Ran) → Sized P → g .block < P .count → Last P k (begin g memory) x → answerOf P x .finished ≡ 0
-      → answerOf P x .index ≡ P .start (g .block) → answerOf P x .carried ≡ 0
-  unfolding answerOf
-  last-shows x S h (pausing {s = s} p f z) e i = let (eb, ec) = visited P S k (begin g memory) s h refl p .counted .0 e in omega arith
-  last-shows x S h (halting {s = s} {s' = s'} p f q) e i =
-      let c : s' .finished ≡ suc (s .finished) = ap (λ (y : State). y .finished) (halt-stays P s s' q) in absurd (omega arith)
-  last-shows x S h (faulting {s = s} p f q) e i =
-      let (eb, ec) = visited P S k (begin g memory) s h refl p .counted .0 e in
-      let j : P .start (g .block) + s .offset ≡ P .start (g .block) = ap (λ (c : ℕ). P .start c + s .offset) (sym eb) ∙ i in
-      omega arith
-
-  -- The answer shows that nothing was carried out: no block is finished, and the place is the first instruction of the start block.
-  pub run-shows : run C memory g k .finished ≡ 0 → run C memory g k .index ≡ P .start (g .block) → run C memory g k .carried ≡ 0
-  unfolding run opened
-  run-shows e i = go (runAsk C memory (g .block)) refl e i
-    where
-      go : (o : Outcome (Unit {0})) → runAsk C memory (g .block) ≡ o → opened o P memory g k .finished ≡ 0
-          → opened o P memory g k .index ≡ P .start (g .block) → opened o P memory g k .carried ≡ 0
-      go (ok u) q e i =
-          let O = opens C memory (g .block) q in
-          last-shows _ (sized C (O .lengths)) (O .exists) (run-last C memory g k O) e i
-      go (refused f) q e i = refl
-
-  last-opens : (x : Ran) → Last P k (begin g memory) x → opening (answerOf P x .number) ≡ true → ⊥
-  unfolding answerOf _or_
-  last-opens x (pausing p f z) e = false≢true e
-  last-opens x (halting p f q) e = false≢true e
-  last-opens x (faulting {s = s} {q = y} p f q) e = go y (fault-asks P s s y q) e
-    where
-      go : (y : Question) → OfCode y → opening (numberOf y) ≡ true → ⊥
-      go y of-7 e = false≢true e
-      go y of-8 e = false≢true e
-      go y of-9 e = false≢true e
-      go y of-18 e = false≢true e
-      go y of-22 e = false≢true e
-
-  -- So does the number of an opening question.
-  pub run-unopened : opening (run C memory g k .number) ≡ true → run C memory g k .carried ≡ 0
-  unfolding run opened
-  run-unopened e = go (runAsk C memory (g .block)) refl e
-    where
-      go : (o : Outcome (Unit {0})) → runAsk C memory (g .block) ≡ o → opening (opened o P memory g k .number) ≡ true → opened o P memory g k .carried ≡ 0
-      go (ok u) q e = absurd (last-opens _ (run-last C memory g k (opens C memory (g .block) q)) e)
-      go (refused f) q e = refl
-
-  -- a run that faults ends in a state passed through, as it was before the instruction with the no
-  pub record Faulted (q : Question) : Type 0 where
-    pub state : State
-    pub passed : Passes P k (begin g memory) state
-    pub fault : step P state ≡ faults q state
-    pub answer : run C memory g k ≡ answerAt P (numberOf q) state
-
-  faulted-from : (x : Ran) (s : State) (q : Question) → x ≡ faulted q s → Last P k (begin g memory) x → Passes P k (begin g memory) s × (step P s ≡ faults q s)
-  faulted-from x s q e (pausing p f z) = absurd (let y : _≡_ {A = ℕ} 0 1 = cc in omega arith)
-  faulted-from x s q e (halting p f y) = absurd (let y : _≡_ {A = ℕ} 0 1 = cc in omega arith)
-  faulted-from x s q e (faulting {s = s'} {q = q'} p f y) =
-      let a : s' ≡ s = cc in
-      let c : q' ≡ q = cc in
-      (rw (← a) p, rw (← a, ← c) y)
-
-  pub run-faulted : (s : State) (q : Question) → Opens C memory (g .block) → runBlocks P k (begin g memory) ≡ faulted q s → Faulted q
-  unfolding answerOf
-  run-faulted s q O e =
-      let (p, f) = faulted-from _ s q e (run-last C memory g k O) in
-      record { state = s; passed = p; fault = f; answer = run-is C memory g k O ∙ ap (answerOf P) e }
 
 -- ---- a run of j + k blocks is a run of j gone on with for k
 

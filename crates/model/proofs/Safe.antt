@@ -14,6 +14,7 @@ use Rattle.model.specs.Machine.{State, Ran, runBlocks, answerOf, returne
 use Rattle.model.specs.Check.{judge, blockAsk}
 use Rattle.model.specs.Turns.{Task, Standing, waiting, done, World, Call, turn, checking, checkingMemory, checkingEntry, running, settled}
 use Rattle.model.specs.Turns.{standingBy, turnRun, turned, afterCall, atStart, Allowed}
+use Rattle.model.specs.Exactness.{MemoryPasses}
 use Rattle.model.specs.Safety.{Checked, AllFit, InField, Ends, pauses, halting, TurnSafe, CallSafe, Safe, Demand3}
 use Rattle.model.proofs.Logic.{byTest, byEqual, firstNo-ok, ok-firstNo}
 use Rattle.model.proofs.Lawful.{Lawful, Tabled}
@@ -22,10 +23,11 @@ use Rattle.model.proofs.EdgeSound.{Stands, MemoryFit}
 use Rattle.model.proofs.BlockSound.{Field}
 use Rattle.model.proofs.MachineLaws.{Last, pausing, halting as last-halting, faulting}
 use Rattle.model.proofs.TableLaws.{annotated, sized, Annotated, Sized}
-use Rattle.model.proofs.MeetsDecide.{LaidOut, laid-out, MemoryPasses, memory-exactly, EntryPasses, entry-exactly}
+use Rattle.model.proofs.MeetsDecide.{LaidOut, laid-out, layout-exactly, memory-exactly, entry-exactly}
 use Rattle.model.proofs.RunSound.{RunSafe, run-safe}
 use Rattle.model.proofs.RunCalls.{Opens, run-is, run-last, run-untouched}
 use Rattle.model.proofs.Exactly.{Accepted, check-exactly, judge-exactly}
+use Rattle.model.proofs.ReadingBlocks.{type-given}
 
 waiting-same : {g h : Ready} → waiting g ≡ waiting h → g ≡ h
 waiting-same e = cc
@@ -63,7 +65,7 @@ module _ (types tags allocations memory : List ℕ) (n : ℕ) (tasks : ℕ → T
   passes = memory-exactly types tags allocations memory .0 (C .memoryPassed)
 
   layout : LaidOut types tags allocations (length memory)
-  layout = laid-out types tags allocations (length memory) (passes .layout)
+  layout = laid-out types tags allocations (length memory) (layout-exactly types tags allocations (length memory) .1 (passes .layout))
 
   narrow : length memory < 2 ^ 32
   narrow = let b = layout .bound in omega arith
@@ -164,7 +166,10 @@ module _ (types tags allocations memory : List ℕ) (n : ℕ) (tasks : ℕ → T
         → Field 𝒯 (Allocated allocations) memory narrow (layout .law) (layout .tab) (P i)
         (sound i mine .names) (sound i mine .sizes) (sound i mine .blocks) s c d
         → InField types tags allocations memory n tasks i s c d
-    in-field s c d F = (F .type, F .said, F .base, F .below, F .unwrapped)
+    in-field s c d F =
+        let short : P i .long (s .block) ≤ 32 = sound i mine .sizes .most (s .block) (F .exists) in
+        let given = type-given types tags (tasks i .code) (s .block) (s .offset) (F .reading) short (F .within) (F .reads) c (F .type) in
+        (F .type, given .0 (F .said), F .base, F .below, F .unwrapped)
 
     turn-safe : TurnSafe types tags allocations memory n tasks w i k g
     turn-safe =

@@ -13,7 +13,7 @@ use Rattle.model.specs.Word.{kindOf, recordOf, firstOf, secondOf}
 use Rattle.model.specs.Types.{depOf, ofKind, typeOf}
 use Rattle.model.specs.Table.{Tables, fieldOf, startOf, routineOf, usesFirst, usesSecond, dependency, wellMade, countAsk, fieldWell, fieldsAsk}
 use Rattle.model.specs.Table.{typesAsk, blocksAsk, lengthsAsk, annotationWell, annotationAsk, annotationsAsk, memoryLengthAsk, Code, headOf}
-use Rattle.model.specs.Table.{typesQuestions, tablesOf, Routine}
+use Rattle.model.specs.Table.{typesQuestions, tablesOf, Routine, typeLengthsAsk, rows, rowOf}
 use Rattle.model.specs.Allocation.{isAllocated, Allocated, laid, rowsAsk, allocationsAsk}
 use Rattle.model.proofs.Logic.{byTest, byEqual, byLess, either, and-true, or-true, every-true, ask-ok, passed-then, firstNo-ok, not-ok, all-passed}
 use Rattle.model.proofs.Lists.{getD-past}
@@ -98,6 +98,18 @@ types-ok types tags q =
       names = λ t f h l. well-below (𝒯 .count) (𝒯 .size t) _ (rw (lt-ltb f (𝒯 .size t) l) at (word t f h (omega (arith, few t h))));
       past = λ t f h k l. eqb-true _ 0 (rw (le-ltb f (𝒯 .size t) l) at (word t f h k));
     }
+
+-- ---- Q1 and Q2: a row that does not exist has no fields
+
+pub sizes-eight : (types tags : List ℕ) → typeLengthsAsk (length types) (length tags) ≡ ok tt → typesAsk types tags ≡ ok tt
+    → (t : ℕ) → tablesOf types tags .size t ≤ 8
+unfolding typeLengthsAsk tablesOf rowOf
+sizes-eight types tags q ok₂ t =
+    byLess t (rows types) (λ h. types-ok types tags ok₂ .small t h)
+    (λ h. let whole : length types % 9 ≡ 0 = eqb-true _ _ (and-true _ _ (ask-ok _ _ _ q .0) .0) in
+    let taken = length-take 9 (drop (t * 9) types) in
+    let dropped = length-drop (t * 9) types in
+    rw (getD-past (take 9 (drop (t * 9) types)) 0 0 (omega arith)) (omega arith))
 
 -- ---- Q5
 

@@ -2,6 +2,7 @@
 use mathlib.Core.Path.{_≡_, refl, sym, ap, _∙_}
 use mathlib.Core.Logic.{_⊎_, inl, inr, _↔_}
 use mathlib.Core.Bool.{Bool, true, false, false≢true}
+use mathlib.Core.Option.{some, Option·some-injective}
 use mathlib.Core.List.{List, [], _∷_}
 use Prim.Native.Nat.{ℕ, zero, suc, _≤_, _<_}
 use native.Mathlib.Omega.{arith}
@@ -14,12 +15,12 @@ use Rattle.model.specs.Question.{ok}
 use Rattle.model.specs.Types.{Dep, name, con, Ty, any, ref, maybe, tagged, present, same, span, typeOf, rename}
 use Rattle.model.specs.Table.{Tables, tablesOf, Routine, routineOf, Code, lastAt}
 use Rattle.model.specs.Machine.{Instruction, plain, end, malformed, formAsk}
-use Rattle.model.specs.Reading.{Values, birthplace, typed, constantsOf, firstTag, referenceOf, Reading}
 use Rattle.model.specs.Rules.{Constant, constant-itself, by-opcode-1, by-type-same, by-taken-11, KnownTag, Fits, ref-ref, ref-in, ref-present}
-use Rattle.model.specs.Check.{valueIn, readInstruction, readingAt, referenceAfter, given, readEnd, noAt}
+use Rattle.model.specs.Reading.{Values, birthplace, typed, constantsOf, firstTag, referenceOf, Reading}
+use Rattle.model.specs.Check.{readInstruction, readingAt, readEnd, noAt}
 use Rattle.model.proofs.Logic.{byTest, either, ask-ok, then-ok, passed-then, ok-same, not-ok, not-true}
 use Rattle.model.proofs.Lists.{Member, first, later}
-use Rattle.model.proofs.RulesDecide.{own-is, constant-known, known-constant}
+use Rattle.model.proofs.RulesDecide.{knownOf, own-is, told-is, constant-known, known-constant}
 use Rattle.model.proofs.Tidy.{TidyValues, Tidy, tidy-on, plain-tidy, entry-tidy}
 use Rattle.model.proofs.Rows.{eight-words, words-eight}
 
@@ -29,7 +30,8 @@ to-same e = cc
 pub not-to : {t : ℕ} → Nothing ≡ To t → ⊥
 not-to e = let z : _≡_ {A = ℕ} 0 1 = cc in omega arith
 
-any-typed : (vs : Values) (v : ℕ) → getD (vs .words) v 0 ≡ 0 → typed vs v ≡ any
+-- a type word 0 says Any
+pub any-typed : (vs : Values) (v : ℕ) → getD (vs .words) v 0 ≡ 0 → typed vs v ≡ any
 unfolding typed typeOf rename
 any-typed vs v e = rw e refl
 
@@ -64,25 +66,29 @@ module _ (𝒯 : Tables) (vs : Values) where
     type-or-opcode : (v c d : ℕ) → getD (vs .constants) (birthplace v) 0 ≡ suc c → typed vs v ≡ same (con d) → ⊥
     type-or-opcode v c d e f = either (T .single v) (λ z. omega arith) (λ z. any-not-same (con d) (sym (any-typed vs v z) ∙ f))
 
-    pub one-constant : (x : Dep) (c d : ℕ) → Constant 𝒯 vs x c → Constant 𝒯 vs x d → c ≡ d
+    -- inside a block no taken opcode 11 has told anything
+    untold : (v c : ℕ) → knownOf vs .tested v ≡ some c → ⊥
+    untold v c e = let h = told-is vs v c e .constant in let z = T .untested in omega arith
+
+    pub one-constant : (x : Dep) (c d : ℕ) → Constant 𝒯 (knownOf vs) x c → Constant 𝒯 (knownOf vs) x d → c ≡ d
     one-constant (con x) c d constant-itself constant-itself = refl
-    one-constant (name v) c d (by-opcode-1 e) (by-opcode-1 f) = omega arith
+    one-constant (name v) c d (by-opcode-1 e) (by-opcode-1 f) = Option·some-injective c d (sym e ∙ f)
     one-constant (name v) c d (by-opcode-1 e) (by-type-same f) = absurd (type-or-opcode v c d (own-is vs v c e) f)
-    one-constant (name v) c d (by-opcode-1 e) (by-taken-11 h f) = absurd (let z = T .untested in omega arith)
+    one-constant (name v) c d (by-opcode-1 e) (by-taken-11 f) = absurd (untold v d f)
     one-constant (name v) c d (by-type-same e) (by-opcode-1 f) = absurd (type-or-opcode v d c (own-is vs v d f) e)
     one-constant (name v) c d (by-type-same e) (by-type-same f) = same-constant (sym e ∙ f)
-    one-constant (name v) c d (by-type-same e) (by-taken-11 h f) = absurd (let z = T .untested in omega arith)
-    one-constant (name v) c d (by-taken-11 h e) (by-opcode-1 f) = absurd (let z = T .untested in omega arith)
-    one-constant (name v) c d (by-taken-11 h e) (by-type-same f) = absurd (let z = T .untested in omega arith)
-    one-constant (name v) c d (by-taken-11 h e) (by-taken-11 k f) = absurd (let z = T .untested in omega arith)
+    one-constant (name v) c d (by-type-same e) (by-taken-11 f) = absurd (untold v d f)
+    one-constant (name v) c d (by-taken-11 e) (by-opcode-1 f) = absurd (untold v c e)
+    one-constant (name v) c d (by-taken-11 e) (by-type-same f) = absurd (untold v c e)
+    one-constant (name v) c d (by-taken-11 e) (by-taken-11 f) = absurd (untold v c e)
 
-    one-tag : (d : Dep) (t u : ℕ) → KnownTag 𝒯 vs t d → KnownTag 𝒯 vs u d → t ≡ u
+    one-tag : (d : Dep) (t u : ℕ) → KnownTag 𝒯 (knownOf vs) t d → KnownTag 𝒯 (knownOf vs) u d → t ≡ u
     one-tag d t u K L =
         sym (K .stands .names) ∙ ap (λ (k : ℕ). getD (𝒯 .tags) k 0) (one-constant d (K .tag) (L .tag) (K .known) (L .known)) ∙ L .stands .names
 
     -- ---- one record type
 
-    pub one-reference : (v t u : ℕ) → Fits 𝒯 vs v (ref t) → Fits 𝒯 vs v (ref u) → t ≡ u
+    pub one-reference : (v t u : ℕ) → Fits 𝒯 (knownOf vs) v (ref t) → Fits 𝒯 (knownOf vs) v (ref u) → t ≡ u
     one-reference v t u (ref-ref e) (ref-ref f) = ref-same (sym e ∙ f)
     one-reference v t u (ref-ref e) (ref-in f) = absurd (ref-not-span (sym e ∙ f))
     one-reference v t u (ref-ref e) (ref-present f L) = absurd (ref-not-present (sym e ∙ f))
@@ -96,7 +102,7 @@ module _ (𝒯 : Tables) (vs : Values) where
 
   -- ---- the answer to Q10 is the type that the base fits
 
-  first-tag : (d : Dep) (ks : List ℕ) (t : ℕ) → ((k : ℕ) → Member k ks → Constant 𝒯 vs d k) → firstTag 𝒯 ks ≡ To t → KnownTag 𝒯 vs t d
+  first-tag : (d : Dep) (ks : List ℕ) (t : ℕ) → ((k : ℕ) → Member k ks → Constant 𝒯 (knownOf vs) d k) → firstTag 𝒯 ks ≡ To t → KnownTag 𝒯 (knownOf vs) t d
   unfolding firstTag
   first-tag d [] t h e = absurd (not-to e)
   first-tag d (k ∷ ks) t h e =
@@ -104,7 +110,7 @@ module _ (𝒯 : Tables) (vs : Values) where
       (λ q. record { tag = k; known = h k first; stands = record { listed = ltb-true k _ q; names = to-same (rw q at e) } })
       (λ q. first-tag d ks t (λ x m. h x (later m)) (rw q at e))
 
-  reference-typed : (v : ℕ) (ty : Ty) (t : ℕ) → typed vs v ≡ ty → referenceOf 𝒯 vs ty ≡ To t → Fits 𝒯 vs v (ref t)
+  reference-typed : (v : ℕ) (ty : Ty) (t : ℕ) → typed vs v ≡ ty → referenceOf 𝒯 vs ty ≡ To t → Fits 𝒯 (knownOf vs) v (ref t)
   unfolding referenceOf
   reference-typed v any t h e = absurd (not-to e)
   reference-typed v (ref u) t h e = ref-ref (h ∙ ap ref (to-same e))
@@ -117,7 +123,7 @@ module _ (𝒯 : Tables) (vs : Values) where
       (λ q. ref-in {d = d} {e = f} (h ∙ ap (λ (x : ℕ). span x u d f) (eqb-true k 2 q) ∙ ap (λ (x : ℕ). span 2 x d f) (to-same (rw q at e))))
       (λ q. absurd (not-to (rw q at e)))
 
-  pub reference-fits : (v t : ℕ) → referenceOf 𝒯 vs (typed vs v) ≡ To t → Fits 𝒯 vs v (ref t)
+  pub reference-fits : (v t : ℕ) → referenceOf 𝒯 vs (typed vs v) ≡ To t → Fits 𝒯 (knownOf vs) v (ref t)
   reference-fits v t e = reference-typed v (typed vs v) t refl e
 
   -- a list of which k is the only member, and k a tag
@@ -126,7 +132,7 @@ module _ (𝒯 : Tables) (vs : Values) where
   only-tag k (x ∷ ks) l m h = let e : x ≡ k = h x first in rw (e, lt-ltb k (length (𝒯 .tags)) l)
 
   module _ (g : ℕ) (T : TidyValues vs g) where
-    fits-reference : (v t : ℕ) → Fits 𝒯 vs v (ref t) → referenceOf 𝒯 vs (typed vs v) ≡ To t
+    fits-reference : (v t : ℕ) → Fits 𝒯 (knownOf vs) v (ref t) → referenceOf 𝒯 vs (typed vs v) ≡ To t
     unfolding referenceOf
     fits-reference v t (ref-ref e) = rw e
     fits-reference v t (ref-in e) = rw e
@@ -136,7 +142,7 @@ module _ (𝒯 : Tables) (vs : Values) where
         (λ x m. one-constant g T d x (K .tag) (constant-known 𝒯 vs d x m) (K .known))
         ∙ ap To (K .stands .names))
 
-    pub reference-decides : (v t : ℕ) → (referenceOf 𝒯 vs (typed vs v) ≡ To t) ↔ Fits 𝒯 vs v (ref t)
+    pub reference-decides : (v t : ℕ) → (referenceOf 𝒯 vs (typed vs v) ≡ To t) ↔ Fits 𝒯 (knownOf vs) v (ref t)
     reference-decides v t = (reference-fits v t, fits-reference v t)
 
 -- ---- every reading of a block is tidy
@@ -169,14 +175,3 @@ module _ (types tags : List ℕ) (C : Code) where
   reading-tidy b (suc j) st m l q =
       let (st₀, r, p) = then-ok _ _ q in
       instruction-tidy b j _ st₀ st m (omega arith) (reading-tidy b j st₀ m (omega arith) r) p
-
-  -- inside a block the type that Q10 gives is the only one that the base fits
-  pub type-unique : (b j : ℕ) (st : Reading) → P′ .long b ≤ 32 → j ≤ P′ .long b → readingAt 𝒯′ P′ b j ≡ ok st → (v t u : ℕ)
-      → Fits 𝒯′ (st .values) v (ref t) → Fits 𝒯′ (st .values) v (ref u) → t ≡ u
-  type-unique b j st m l q v t u = one-reference 𝒯′ (st .values) (suc j) (reading-tidy b j st m l q .values) v t u
-
-  -- and the answer to Q10 is that type
-  pub type-given : (b j : ℕ) (st : Reading) → P′ .long b ≤ 32 → j ≤ P′ .long b → readingAt 𝒯′ P′ b j ≡ ok st → (r t : ℕ)
-      → (given 𝒯′ P′ b j r ≡ To t) ↔ Fits 𝒯′ (st .values) (valueIn st r) (ref t)
-  unfolding given referenceAfter
-  type-given b j st m l q r t = rw q (reference-decides 𝒯′ (st .values) (suc j) (reading-tidy b j st m l q .values) (valueIn st r) t)

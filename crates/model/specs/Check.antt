@@ -1,16 +1,16 @@
 -- The check of a routine: Q1 to Q6, then Q7 to Q15 instruction by instruction.
 use mathlib.Core.Bool.{Bool, not}
-use mathlib.Core.List.{List, [], _∷_}
+use mathlib.Core.List.{List}
 use Prim.Native.Nat.{ℕ, zero, suc, _+_}
 use lib.Dec.{ltb, eqb}
-use lib.ListN.{length, getD}
+use lib.ListN.{getD}
 use Rattle.model.specs.declared.Verdict.{Verdict}
 use Rattle.model.specs.declared.Reference.{Reference}
 use Rattle.model.specs.declared.Reference.the-variants.{To, Nothing}
 use Rattle.model.specs.Question.{_or_, Question, q10, q11, q12, q13, q14, q15, Refusal, refusal}
-use Rattle.model.specs.Question.{Outcome, ok, refused, ask, asked, then, inOrder, firstNo, verdictOf}
-use Rattle.model.specs.Table.{rows, Tables, tablesOf, Code, Routine, routineOf, lastAt}
-use Rattle.model.specs.Table.{typeLengthsAsk, codeLengthsAsk, typesAsk, lengthsAsk, annotationsAsk}
+use Rattle.model.specs.Question.{Outcome, ok, refused, ask, asked, then, firstNo, verdictOf}
+use Rattle.model.specs.Table.{Tables, tablesOf, Code, Routine, routineOf, lastAt}
+unfoldable pub use Rattle.model.specs.Table.{tableQuestions, tablesAsk}
 use Rattle.model.specs.Machine.{Plain, constant, copy, add, subtract, multiply, divide, move, load, store, End, halt, jump, ifEqual, ifLess}
 use Rattle.model.specs.Machine.{Instruction, instructionAt, formAsk}
 use Rattle.model.specs.Reading.{Values, typed, birthplace, rowFits, referenceOf, Reading, entry, putRegister, fresh, movedWord}
@@ -108,28 +108,7 @@ module _ (𝒯 : Tables) (P : Routine) where
   readingAt b zero = ok (entry (P .annotation b))
   readingAt b (suc j) = then (readingAt b j) (λ st. readAt b j st)
 
-  unfoldable pub referenceAfter : Outcome Reading → ℕ → Reference
-  referenceAfter (ok st) r = referenceIn 𝒯 st r
-  referenceAfter (refused q) r = Nothing
-
-  -- 01: 'The type given to a load or store is the T of the Ref T that Q10 found its base to fit there'
-  unfoldable pub given : ℕ → ℕ → ℕ → Reference
-  given b j r = referenceAfter (readingAt b j) r
-
 -- ---- the public call
-
--- 01: 'Each of Q1 to Q6 runs over all rows before the next'
-abbrev pub tableQuestions : List ℕ → List ℕ → Code → List (Outcome (Unit {0}))
-tableQuestions types tags C =
-    typeLengthsAsk (length types) (length tags)
-    ∷ codeLengthsAsk (length (C .blocks)) (length (C .code))
-    ∷ typesAsk types tags
-    ∷ lengthsAsk (C .blocks) (length (C .code))
-    ∷ annotationsAsk (rows types) (C .blocks)
-    ∷ []
-
-unfoldable pub tablesAsk : List ℕ → List ℕ → Code → Outcome (Unit {0})
-tablesAsk types tags C = inOrder (tableQuestions types tags C)
 
 unfoldable pub checkAsk : List ℕ → List ℕ → Code → Outcome (Unit {0})
 checkAsk types tags C = then (tablesAsk types tags C) λ _. judge (tablesOf types tags) (routineOf C)

@@ -5,11 +5,14 @@ pub mod Table
 pub mod Meaning
 pub mod Allocation
 pub mod Machine
-pub mod Reading
 pub mod Rules
+pub mod ReadingRules
+pub mod Reading
 pub mod Check
 pub mod MemoryCheck
 pub mod Turns
+pub mod Faults
+pub mod Exactness
 pub mod Safety
 pub mod Cases
 pub mod Misreadings

@@ -1,7 +1,8 @@
 -- Questions, the first no with its place, and the verdict made of it: what every call answers with.
+use mathlib.Core.Path.{_≡_}
 use mathlib.Core.Bool.{Bool, true, false}
 use mathlib.Core.List.{List, [], _∷_}
-use Prim.Native.Nat.{ℕ, zero, suc}
+use Prim.Native.Nat.{ℕ, zero, suc, _+_, _≤_, _<_}
 use lib.Dec.{eqb}
 use Rattle.model.specs.declared.Verdict.{Verdict}
 
@@ -136,6 +137,26 @@ inOrder (q ∷ rest) = then q λ _. inOrder rest
 unfoldable pub firstNo : ℕ → ℕ → (ℕ → Outcome (Unit {0})) → Outcome (Unit {0})
 firstNo zero i f = ok tt
 firstNo (suc n) i f = then (f i) (λ _. firstNo n (suc i) f)
+
+-- ---- no no, and the first no
+
+-- each row of questions has no no
+abbrev pub AllPassed : List (Outcome (Unit {0})) → Type 0
+AllPassed [] = Unit {0}
+AllPassed (q ∷ rest) = (q ≡ ok tt) × AllPassed rest
+
+-- the first row of questions with a no: those before it have none
+pub data FirstRefused (r : Refusal) : List (Outcome (Unit {0})) → Type 0 where
+  at-once : {q : Outcome (Unit {0})} {rest : List (Outcome (Unit {0}))} → q ≡ refused r → FirstRefused r (q ∷ rest)
+  further : {q : Outcome (Unit {0})} {rest : List (Outcome (Unit {0}))} → q ≡ ok tt → FirstRefused r rest → FirstRefused r (q ∷ rest)
+
+-- the first row with a no of the n rows from i on: those before it have none
+pub record FirstNo (n i : ℕ) (f : ℕ → Outcome (Unit {0})) (r : Refusal) : Type 0 where
+  pub row : ℕ
+  pub low : i ≤ row
+  pub high : row < i + n
+  pub here : f row ≡ refused r
+  pub before : (j : ℕ) → i ≤ j → j < row → f j ≡ ok tt
 
 -- 01: 'A check without a no gives 0 at 0, 0'
 abbrev pub passed : Verdict

@@ -3,13 +3,13 @@ use mathlib.Core.Path.{_≡_}
 use mathlib.Core.List.{List, [], _∷_}
 use Prim.Native.Nat.{ℕ, _+_, _<_}
 use lib.ListN.{length, getD}
-use Rattle.model.specs.declared.Reference.the-variants.{To}
 use Rattle.model.specs.Word.{sum}
 use Rattle.model.specs.Table.{Tables, tablesOf, Routine, routineOf}
 use Rattle.model.specs.Meaning.{RecordMeets, RegistersMeet, Outside}
 use Rattle.model.specs.Allocation.{Allocated}
 use Rattle.model.specs.Machine.{load, store, plain, instructionAt, reg, State, halts, step, Passes, Run, answerAt, Ready, ready, begin}
-use Rattle.model.specs.Check.{given, check}
+use Rattle.model.specs.ReadingRules.{TypeGiven}
+use Rattle.model.specs.Check.{check}
 use Rattle.model.specs.MemoryCheck.{memoryCheck, entryCheck}
 use Rattle.model.specs.Turns.{Task, waiting, done, World, Call, turn, checking, checkingMemory, checkingEntry, running}
 use Rattle.model.specs.Turns.{settled, turnRun, afterCall, atStart, Allowed}
@@ -38,11 +38,11 @@ module _ (types tags allocations memory : List ℕ) (n : ℕ) (tasks : ℕ → T
     pub long : length (w .memory) ≡ length memory
     pub outside : (x : ℕ) → Outside 𝒯 (Allocated allocations) x → getD (w .memory) x 0 ≡ getD memory x 0
 
-  -- The check gave a type to the access through register b at offset c: rb is the start of an allocated record of that type, c is
-  -- below its size, and the address does not wrap.
+  -- A type is given to the access through register b at offset c: rb is the start of an allocated record of that type, c is below its
+  -- size, and the address does not wrap.
   abbrev pub InField : ℕ → State → ℕ → ℕ → Type 0
   InField i s b c =
-      (t : ℕ) × (given 𝒯 (P i) (s .block) (s .offset) b ≡ To t) × Allocated allocations (reg (s .registers) b) t
+      (t : ℕ) × TypeGiven 𝒯 (P i) (s .block) (s .offset) b t × Allocated allocations (reg (s .registers) b) t
       × (c < 𝒯 .size t) × (sum (reg (s .registers) b) c ≡ reg (s .registers) b + c)
 
   -- The run is the machine's: its answer is that of the last state passed through, 40 after its budget of blocks, or 0 at a halt.

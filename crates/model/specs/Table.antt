@@ -215,6 +215,21 @@ annotationAsk count blocks b = asked (every registerCount 0 (λ r. annotationWel
 unfoldable pub annotationsAsk : ℕ → List ℕ → Outcome (Unit {0})
 annotationsAsk count blocks = firstNo (rows blocks) 0 (annotationAsk count blocks)
 
+-- ---- Q1 to Q6 of a routine
+
+-- 01: 'Each of Q1 to Q6 runs over all rows before the next'
+abbrev pub tableQuestions : List ℕ → List ℕ → Code → List (Outcome (Unit {0}))
+tableQuestions types tags C =
+    typeLengthsAsk (length types) (length tags)
+    ∷ codeLengthsAsk (length (C .blocks)) (length (C .code))
+    ∷ typesAsk types tags
+    ∷ lengthsAsk (C .blocks) (length (C .code))
+    ∷ annotationsAsk (rows types) (C .blocks)
+    ∷ []
+
+unfoldable pub tablesAsk : List ℕ → List ℕ → Code → Outcome (Unit {0})
+tablesAsk types tags C = inOrder (tableQuestions types tags C)
+
 -- ---- Q16 and Q17. 01: '0, 0 for 16 and 17 in every call'
 
 unfoldable pub startAsk : List ℕ → ℕ → Outcome (Unit {0})

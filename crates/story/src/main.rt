@@ -158,7 +158,7 @@ fn fits(memory: &[u32]) -> bool {
 }
 
 // Whose turn it was, and whether every record fits after it.
-fn told(out: &mut [u8; 65536], n: usize, who: u8, memory: &[u32]) -> usize {
+fn turn_taken(out: &mut [u8; 65536], n: usize, who: u8, memory: &[u32]) -> usize {
     let at = output::put(out, n, who);
     if fits(memory) {
         return at;
@@ -199,14 +199,14 @@ fn next(out: &mut [u8; 65536], correction: bool, memory: &mut [u32], w: Waiting)
         return Waiting {
             correction: after,
             ranking: r,
-            at: told(out, w.at, b'c', memory),
+            at: turn_taken(out, w.at, b'c', memory),
         };
     }
     let after = turn(false, r, memory);
     Waiting {
         correction: c,
         ranking: after,
-        at: told(out, w.at, b'r', memory),
+        at: turn_taken(out, w.at, b'r', memory),
     }
 }
 

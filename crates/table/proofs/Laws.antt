@@ -10,12 +10,12 @@ use lib.Seq.{getD-take, getD-drop}
 use lib.Dec.{ltb, leb, eqb}
 use borrow.Author.Tests.{lt-ltb, le-ltb, le-leb, ne-eqb, leb-true, ltb-true, eqb-true}
 use Rattle.model.specs.declared.Verdict.{Verdict}
-use Rattle.model.specs.Question.{_and_, _or_, pick, ok, q16, refusal, passed, refusing, verdictOf, provided}
+use Rattle.model.specs.Question.{_and_, _or_, pick, ok, q16, refusal, passed, refusing, verdictOf, provided, AllPassed}
 use Rattle.model.specs.Word.{kindOf, recordOf, firstOf, secondOf}
 use Rattle.model.specs.Table.{rowOf, rows, headOf, wordsOf, startOf, tablesOf, routineOf, wholeRows, typeLengthsAsk, codeLengthsAsk, countAsk}
 use Rattle.model.specs.Table.{fieldWell, fieldsAsk, tagAsk, typesAsk, usesRecord, usesFirst, usesSecond, dependency, wellMade, blocksAsk, lengthsAsk}
 use Rattle.model.specs.Table.{annotationWell, annotationAsk, annotationsAsk, startAsk, typesQuestions, Code}
-use Rattle.model.proofs.Logic.{either, byEqual, and-true, or-true, ask-ok, passed-then, every-true, firstNo-ok, AllPassed, all-passed}
+use Rattle.model.proofs.Logic.{either, byEqual, and-true, or-true, ask-ok, passed-then, every-true, firstNo-ok, all-passed}
 use Rattle.table.proofs.Questions.{no-refusal}
 
 -- ---- rows

@@ -104,7 +104,7 @@ fn next_block(b: usize, count: usize) -> usize
 }
 
 // Q7 to Q9 and Q13 to Q15 of the last instruction of block b, which leads to the rows of its target and of the next block.
-fn last(
+fn block_end(
     rows: &[u32; 13],
     tags: &[u32],
     blocks: &[u32],
@@ -123,13 +123,13 @@ fn last(
         (readingIn registers words frames constants views fields since base))
         × (isAnswer r ≡ true) ⌝ }
 {
-    let count = blocks.len() / limit::ROW_WORDS;
-    let no = branch::may_end(rows, word, b as u32, count as u32, base);
+    let total = blocks.len() / limit::ROW_WORDS;
+    let no = branch::may_end(rows, word, b as u32, total as u32, base);
     if no != number::PASSED {
         return no;
     }
     let taken = table::row(blocks, instruction::target(word) as usize);
-    let untaken = table::row(blocks, next_block(b, count));
+    let untaken = table::row(blocks, next_block(b, total));
     branch::edges(
         tags,
         registers,
@@ -177,7 +177,7 @@ fn block(
     if r.number != number::PASSED {
         return answer::refused_at(r.number, b, first + at);
     }
-    let no = last(
+    let no = block_end(
         rows,
         tags,
         blocks,

@@ -49,7 +49,8 @@ returns c =
     let k = c .before .before in
     let l = k .before .before .before .loop in (
       c .refused .ensures
-          ∙ lengths-stop _ _ (l .b) (l .i) _ (l .inv .0) (omega arith) _ (k .before .head .ensures) (test-false (k .length-well .ensures) (c .before .if1 .taken)),
+          ∙ lengths-stop _ _ (l .b) (l .i) _ (l .inv .0) (omega arith) _ (k .before .head .ensures)
+          (test-false (k .length-well .ensures) (c .before .if1 .taken)),
       λ e z b h. absurd (omega (arith, ap (λ (v : Verdict). v .number) (c .refused .ensures))),
     )
 

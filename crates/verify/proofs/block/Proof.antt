@@ -24,7 +24,7 @@ rowed c = c .before .before .before
 abbrev laid : tie.After-inside → tie.After-copy-row
 laid c = c .before .before .before .before .before
 
-abbrev passed : tie.After-last → tie.Else1
+abbrev passed : tie.After-block-end → tie.Else1
 passed c = c .before .before .before .before .before .before
 
 row-exists : (c : tie.After-row) → start c .args .b * 9 + 9 ≤ length (now (start c .args .blocks))
@@ -65,14 +65,14 @@ returns c =
     ∙ block-stops B (i .inside .ensures .0 _ _ _ B) (c .before .if1 .taken)
     ∙ ap verdictOf (sym (block-begins _ (codeOf _ code) _ _ (l .copy-row .ensures ∙ ap (laidAt _ 0) (part-is _ _ _ (rowed l .row .ensures)))))
 
-mul-last : tie.Need-mul-last
-mul-last c = search needs
+mul-block-end : tie.Need-mul-block-end
+mul-block-end c = search needs
 
-shared-slice-read-last : tie.Need-shared-slice-read-last
-shared-slice-read-last c = search needs
+shared-slice-read-block-end : tie.Need-shared-slice-read-block-end
+shared-slice-read-block-end c = search needs
 
-last-requires : tie.Need-last-requires
-last-requires c κs = search needs
+block-end-requires : tie.Need-block-end-requires
+block-end-requires c κs = search needs
 
 add-refused-at-2 : tie.Need-add-refused-at-2
 add-refused-at-2 c =
@@ -93,7 +93,7 @@ returns-2 c =
     λ code B.
     c .refused-at2 .ensures
     ∙ block-refuses B (i .inside .ensures .0 _ _ _ B) (p .if1 .left) (i .inside .ensures .1 .end (p .if1 .left)) _
-    (λ place. a .last .ensures .0 place _ code _ _ _ _) (c .before .if2 .taken) (a .last .ensures .1)
+    (λ place. a .block-end .ensures .0 place _ code _ _ _ _) (c .before .if2 .taken) (a .block-end .ensures .1)
     ∙ ap verdictOf (sym (block-begins _ (codeOf _ code) _ _ (l .copy-row .ensures ∙ ap (laidAt _ 0) (part-is _ _ _ (rowed l .row .ensures)))))
 
 passed-requires : tie.Need-passed-requires
@@ -108,7 +108,7 @@ returns-3 c =
     λ code B.
     c .passed .ensures
     ∙ block-passes B (i .inside .ensures .0 _ _ _ B) (p .if1 .left) (i .inside .ensures .1 .end (p .if1 .left)) _
-    (λ place. a .last .ensures .0 place _ code _ _ _ _) (c .before .if2 .left)
+    (λ place. a .block-end .ensures .0 place _ code _ _ _ _) (c .before .if2 .left)
     ∙ ap verdictOf (sym (block-begins _ (codeOf _ code) _ _ (l .copy-row .ensures ∙ ap (laidAt _ 0) (part-is _ _ _ (rowed l .row .ensures)))))
 
 pub block-spec : {M : Type 1} → statement M
@@ -124,9 +124,9 @@ block-spec =
     add-refused-at
     refused-at-requires
     returns
-    mul-last
-    shared-slice-read-last
-    last-requires
+    mul-block-end
+    shared-slice-read-block-end
+    block-end-requires
     add-refused-at-2
     refused-at-requires-2
     returns-2

@@ -1,4 +1,4 @@
--- `verify::last` meets its contract: Q7 to Q9 and Q13, then the edges to the rows of the target and of the next block.
+-- `verify::block_end` meets its contract: Q7 to Q9 and Q13, then the edges to the rows of the target and of the next block.
 use Prim.Native.Nat.{_*_, _+_, _≤_}
 use native.Mathlib.Omega.{arith}
 use denote.Ref.{now}
@@ -10,8 +10,8 @@ use Rattle.table.proofs.Laws.{routine-count}
 use Rattle.branch.proofs.Ends.{end-word, end-answers, end-refuses, end-reads}
 use Rattle.verify.proofs.Blocks.{target-row, leads}
 use borrow.Author.Needs.{needs}
-use Rattle.verify.proofs.last.Statement.{statement}
-use Rattle.verify.proofs.last.Tie as tie
+use Rattle.verify.proofs.block_end.Statement.{statement}
+use Rattle.verify.proofs.block_end.Tie as tie
 
 -- ---- places: past Q7 to Q9 and Q13, the two rows read
 
@@ -111,8 +111,8 @@ returns-2 c =
       c .edges .ensures .1,
     )
 
-pub last-spec : {M : Type 1} → statement M
-last-spec =
+pub block-end-spec : {M : Type 1} → statement M
+block-end-spec =
     tie.close
     (tie.spec
     cast-may-end
