@@ -1,7 +1,7 @@
 -- Demand 1 holds of every run for C, and demand 3 of every list of calls for C: it leads where a list of crate loader's calls leads.
-use mathlib.Core.Path.{_≡_, refl, sym}
+use mathlib.Core.Path.{_≡_, refl, sym, ap}
 use mathlib.Core.List.{List}
-use Prim.Native.Nat.{ℕ, _+_, _*_, _/_, _%_}
+use Prim.Native.Nat.{ℕ}
 use native.Mathlib.Omega.{arith}
 use Rattle.model.specs.declared.RunAnswer.{RunAnswer}
 use Rattle.model.specs.Table.{Code}
@@ -18,12 +18,15 @@ use Rattle.embed.specs.Turns.{RunSaid, answerIn, PassedInC, CCalls, none
 use Rattle.embed.specs.Turns.{AnsweredInC, DeliveredInC}
 
 -- blocks finished, put together from their low and their high word
-both-words : (x : ℕ) → x % 4294967296 + x / 4294967296 * 4294967296 ≡ x
-both-words x = omega arith
+both-words : (a : RunAnswer) → answerIn (a .number) (a .registers) (endedAt a) .finished ≡ a .finished
+both-words a = omega arith
 
 -- the words that a run of C gave say its answer
 pub answer-said : (a : RunAnswer) → answerIn (a .number) (a .registers) (endedAt a) ≡ a
-answer-said a = rw (both-words (a .finished)) refl
+answer-said a = ap with-finished (both-words a)
+  where
+    with-finished : ℕ → RunAnswer
+    with-finished f = record { number = a .number; block = a .block; index = a .index; finished = f; registers = a .registers }
 
 pub run-said : (C : Code) (memory : List ℕ) (g : Ready) (budget r : ℕ) (left registers answer : List ℕ)
     → RunSaid C memory g budget r left registers answer → RunGave C memory g budget (answerIn r registers answer) left
