@@ -153,13 +153,8 @@ struct Handed {
     v: u32,
 }
 
-fn hand(number: u32, v: u32) -> Handed
-    ensures { λ r. ⌜ r ≡ record { number = number; v = v } ⌝ }
-{
-    Handed { number, v }
-}
-
-// Q18, and memory read or written.
+// Q18, and memory read or written. Each way out makes its own record: where one function makes it, the processor has to put number and
+// word together and take them apart again at every instruction.
 fn reached(memory: &mut [u32], e: Effect) -> Handed
     ensures { λ r. ⌜ ((b j f n : ℕ) (l : List ℕ)
         → stepOf (r .number) (at b j (set l (e .a) (r .v)) (now (memory .exit)) f n) (past (at b j (set l (e .a) (r .v)) (now (memory .exit)) f n))
@@ -168,18 +163,35 @@ fn reached(memory: &mut [u32], e: Effect) -> Handed
     let at = e.at;
     if e.access == READ {
         if memory.len() <= at {
-            return hand(number::ADDRESS, e.v);
+            return Handed {
+                number: number::ADDRESS,
+                v: e.v,
+            };
         }
-        return hand(number::PASSED, memory[at]);
+        let found = memory[at];
+        return Handed {
+            number: number::PASSED,
+            v: found,
+        };
     }
     if e.access == WRITE {
         if memory.len() <= at {
-            return hand(number::ADDRESS, e.v);
+            return Handed {
+                number: number::ADDRESS,
+                v: e.v,
+            };
         }
         memory[at] = e.v;
-        return hand(number::PASSED, e.v);
+        let done = number::PASSED;
+        return Handed {
+            number: done,
+            v: e.v,
+        };
     }
-    hand(e.number, e.v)
+    Handed {
+        number: e.number,
+        v: e.v,
+    }
 }
 
 // The number of the question that had a no, 0 where the instruction was carried out, and the registers after it.

@@ -63,13 +63,14 @@ pub fn copy_row(words: &mut [u32; 256], row: &[u32], first: usize)
     }
 }
 
-// The names of eight fields, from first on.
-fn names(first: u32) -> [u8; 8]
+// The names of eight fields, from first on, written where they are wanted: handed back, the eight bytes would be packed into one word
+// and taken apart again at every load.
+fn name_all(fields: &mut [u8; 8], first: u32)
     requires { ⌜ first ≤ 248 ⌝ }
-    ensures { λ r. ⌜ r ≡ upFrom first 8 ⌝ }
+    ensures { λ _. ⌜ now (fields .exit) ≡ upFrom first 8 ⌝ }
 {
     let f = first as u8;
-    [f, f + 1, f + 2, f + 3, f + 4, f + 5, f + 6, f + 7]
+    *fields = [f, f + 1, f + 2, f + 3, f + 4, f + 5, f + 6, f + 7];
 }
 
 // The size of a record type, 0 past the table.
@@ -181,7 +182,7 @@ fn look(
     let v = x.v as usize;
     let seen = word::wide(views[v]) % 32;
     if s.since < seen {
-        *fields = names(8 * seen);
+        name_all(fields, 8 * seen);
         return;
     }
     let own = table::row(types, x.t as usize);
@@ -190,7 +191,7 @@ fn look(
     frames[g] = g as u8;
     constants[g] = 0;
     views[v] = g as u8;
-    *fields = names(8 * (g as u32));
+    name_all(fields, 8 * (g as u32));
 }
 
 // Q12: no record is open, or v opened it.

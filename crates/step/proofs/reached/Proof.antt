@@ -5,29 +5,20 @@ use Rattle.step.proofs.Instructions.{read-past, read-done, write-past, 
 use Rattle.step.proofs.reached.Statement.{statement}
 use Rattle.step.proofs.reached.Tie as tie
 
-hand-requires : tie.Need-hand-requires
-hand-requires c κs = search needs
-
 returns : tie.Need-returns
-returns c = λ b j f n l. rw (c .hand .ensures) (read-past b j f n l _ _ (c .before .before .if1 .taken) (omega arith) _)
+returns c = λ b j f n l. read-past b j f n l _ _ (c .before .if1 .taken) (omega arith) _
 
-mul-hand : tie.Need-mul-hand
-mul-hand c = search needs
+mul-found : tie.Need-mul-found
+mul-found c = search needs
 
-slice-read-hand : tie.Need-slice-read-hand
-slice-read-hand c = search needs
-
-hand-requires-2 : tie.Need-hand-requires-2
-hand-requires-2 c κs = search needs
+slice-read-found : tie.Need-slice-read-found
+slice-read-found c = search needs
 
 returns-2 : tie.Need-returns-2
-returns-2 c = λ b j f n l. rw (c .hand2 .ensures) (read-done b j f n l _ _ (c .before .before .before .if1 .taken) (omega arith) _)
-
-hand-requires-3 : tie.Need-hand-requires-3
-hand-requires-3 c κs = search needs
+returns-2 c = λ b j f n l. read-done b j f n l _ _ (c .before .before .if1 .taken) (omega arith) _
 
 returns-3 : tie.Need-returns-3
-returns-3 c = λ b j f n l. rw (c .hand3 .ensures) (write-past b j f n l _ _ (c .before .before .if3 .taken) (omega arith) _)
+returns-3 c = λ b j f n l. write-past b j f n l _ _ (c .before .if3 .taken) (omega arith) _
 
 mul-memory : tie.Need-mul-memory
 mul-memory c = search needs
@@ -35,37 +26,26 @@ mul-memory c = search needs
 slice-write-memory : tie.Need-slice-write-memory
 slice-write-memory c = search needs
 
-hand-requires-4 : tie.Need-hand-requires-4
-hand-requires-4 c κs = search needs
-
 same-length : tie.Need-same-length
 same-length c = search needs
 
 returns-4 : tie.Need-returns-4
-returns-4 c = λ b j f n l. rw (c .hand4 .ensures) (write-done b j f n l _ _ (c .before .before .if3 .taken) (omega arith) _)
-
-hand-requires-5 : tie.Need-hand-requires-5
-hand-requires-5 c κs = search needs
+returns-4 c = λ b j f n l. write-done b j f n l _ _ (c .before .if3 .taken) (omega arith) _
 
 returns-5 : tie.Need-returns-5
-returns-5 c = λ b j f n l. rw (c .hand5 .ensures) (not-reached b j f n l _ _ (c .before .before .before .if1 .left) (c .before .if3 .left))
+returns-5 c = λ b j f n l. not-reached b j f n l _ _ (c .before .before .if1 .left) (c .if3 .left)
 
 pub reached-spec : {M : Type 1} → statement M
 reached-spec =
     tie.close
     (tie.spec
-    hand-requires
     returns
-    mul-hand
-    slice-read-hand
-    hand-requires-2
+    mul-found
+    slice-read-found
     returns-2
-    hand-requires-3
     returns-3
     mul-memory
     slice-write-memory
-    hand-requires-4
     same-length
     returns-4
-    hand-requires-5
     returns-5)

@@ -33,16 +33,16 @@ element-copy-out-wide c = search needs
 wide-requires : tie.Need-wide-requires
 wide-requires c κs = search needs
 
-mul-names : tie.Need-mul-names
-mul-names c = search needs
+mul-name-all : tie.Need-mul-name-all
+mul-name-all c = search needs
 
-names-requires : tie.Need-names-requires
-names-requires c κs = search needs
+name-all-requires : tie.Need-name-all-requires
+name-all-requires c κs = search needs
 
 returns-2 : tie.Need-returns-2
 returns-2 c =
-    let w = c .before .before .before in
-    λ registers tags. look-seen _ _ _ _ _ _ _ _ _ _ _ _ _ (omega arith) _ (w .wide .ensures .0) (omega arith) _ (c .names .ensures)
+    let w = c .before .before .before .before in
+    λ registers tags. look-seen _ _ _ _ _ _ _ _ _ _ _ _ _ (omega arith) _ (w .wide .ensures .0) (omega arith) _ (c .name-all .ensures)
 
 cast-row : tie.Need-cast-row
 cast-row c = search needs
@@ -83,22 +83,22 @@ cast-views c = search needs
 element-write-views : tie.Need-element-write-views
 element-write-views c = search needs
 
-cast-names : tie.Need-cast-names
-cast-names c = search needs
+cast-name-all : tie.Need-cast-name-all
+cast-name-all c = search needs
 
-mul-names-2 : tie.Need-mul-names-2
-mul-names-2 c = search needs
+mul-name-all-2 : tie.Need-mul-name-all-2
+mul-name-all-2 c = search needs
 
-names-requires-2 : tie.Need-names-requires-2
-names-requires-2 c κs = search needs
+name-all-requires-2 : tie.Need-name-all-requires-2
+name-all-requires-2 c κs = search needs
 
 returns-3 : tie.Need-returns-3
 returns-3 c =
-    let l = c .before in
+    let l = c .before .before in
     let r = l .before .before .before in
     λ registers tags.
     look-born _ _ _ _ _ _ _ _ _ _ _ _ _ (omega arith) _ (viewed r .wide .ensures .0) (omega arith) (start (viewed r) .pre .0) _ _ _
-    (part-is _ _ _ (r .row .ensures)) (l .copy-row .ensures) (c .names2 .ensures)
+    (part-is _ _ _ (r .row .ensures)) (l .copy-row .ensures) (c .name-all2 .ensures)
 
 pub look-spec : {M : Type 1} → statement M
 look-spec =
@@ -108,8 +108,8 @@ look-spec =
     cast-v
     element-copy-out-wide
     wide-requires
-    mul-names
-    names-requires
+    mul-name-all
+    name-all-requires
     returns-2
     cast-row
     row-requires
@@ -124,7 +124,7 @@ look-spec =
     element-write-constants
     cast-views
     element-write-views
-    cast-names
-    mul-names-2
-    names-requires-2
+    cast-name-all
+    mul-name-all-2
+    name-all-requires-2
     returns-3)

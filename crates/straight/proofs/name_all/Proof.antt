@@ -1,14 +1,14 @@
--- `straight::names` meets its contract.
+-- `straight::name_all` meets its contract.
 use borrow.Author.Needs.{needs}
 use Rattle.straight.proofs.Steps.{names-are}
-use Rattle.straight.proofs.names.Statement.{statement}
-use Rattle.straight.proofs.names.Tie as tie
+use Rattle.straight.proofs.name_all.Statement.{statement}
+use Rattle.straight.proofs.name_all.Tie as tie
 
 returns : tie.Need-returns
 returns c = names-are _
 
-pub names-spec : {M : Type 1} → statement M
-names-spec =
+pub name-all-spec : {M : Type 1} → statement M
+name-all-spec =
     tie.close
     (tie.spec
     (λ c. search needs)
