@@ -3,7 +3,8 @@
 //!
 //! - Known equality is split: the callers ask whether two values are one, and the rest is `fits::joined`, a function of its own.
 //! - A run copies neither its registers nor a table from instruction to instruction or from block to block: no vector register is used
-//!   where control can come from opcode 6's division and go back to it. Copies before the loop and after it are free.
+//!   where control can come from opcode 6's division and go back to it. Nor does it hand two numbers on as the halves of one register:
+//!   no shift by 32 is there. Copies before the loop and after it are free.
 
 use std::collections::BTreeSet;
 use std::io::ErrorKind;
@@ -34,6 +35,10 @@ impl Instruction {
 
     fn copies(&self) -> bool {
         ["%xmm", "%ymm", "%zmm", "rep movs"].iter().any(|part| self.text.contains(part)) || matches!(&*self.symbol, "memcpy" | "memmove")
+    }
+
+    fn packs(&self) -> bool {
+        (self.is("shl") || self.is("shr")) && self.text.contains("$0x20,%r")
     }
 
     /// The address that a call or a jump within the function has as its operand.
@@ -148,20 +153,31 @@ fn split(all: &[Instruction]) -> Result<String, String> {
 fn narrow(all: &[Instruction]) -> Result<String, String> {
     let run = called(all, "ramdulsi_run");
     let body = running(&run);
-    let copies: Vec<&&Instruction> = body.iter().filter(|i| i.copies()).collect();
-    match copies.first() {
-        None if body.is_empty() => Err("no loop of ramdulsi_run divides; expected the one that carries out instructions".to_string()),
-        None => Ok(format!("the run's loop of {} machine instructions copies nothing", body.len())),
+    let wrong = |what: &str, why: &str, found: Vec<&&Instruction>| match found.first() {
+        None => Ok(()),
         Some(i) => Err(format!(
-            "in the run's loop of {} machine instructions {} copy registers or a table, the first {} at {}+{:#x}; expected none: \
-             step::advance has no loop, every way out of it hands back the registers with one word set, and the block takes over that word",
+            "in the run's loop of {} machine instructions {} {what}, the first {} at {}+{:#x}; expected none: {why}",
             body.len(),
-            copies.len(),
+            found.len(),
             i.text,
             i.function,
             i.address
         )),
+    };
+    if body.is_empty() {
+        return Err("no loop of ramdulsi_run divides; expected the one that carries out instructions".to_string());
     }
+    wrong(
+        "copy registers or a table",
+        "step::advance has no loop, every way out of it hands back the registers with one word set, and the block takes over that word",
+        body.iter().filter(|i| i.copies()).collect(),
+    )?;
+    wrong(
+        "pack two numbers into one register or unpack them",
+        "each way out of step::reached makes its own record",
+        body.iter().filter(|i| i.packs()).collect(),
+    )?;
+    Ok(format!("the run's loop of {} machine instructions copies and packs nothing", body.len()))
 }
 
 fn main() {

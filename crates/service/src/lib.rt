@@ -90,7 +90,7 @@ pub struct Turn {
     pub more: bool,
 }
 
-// Reads once; more: there was something to read.
+// Reads once; more: there was something to read. A read can wait for whoever asks, so what was answered is written before it.
 fn read_some(
     p: Progress,
     s: Style,
@@ -99,16 +99,19 @@ fn read_some(
     numbers: &mut [u64; 10],
     out: &mut [u8; 65536],
 ) -> Turn {
+    output::flush(out, p.held);
+    let l = p.line;
+    let written = Progress { line: l, held: 0 };
     let mut buffer = [0u8; 65536];
     let got = libc::read(0, &mut buffer);
     if got <= 0 {
         return Turn {
-            progress: p,
+            progress: written,
             more: false,
         };
     }
     let n = io::count(got, &buffer);
-    let q = bytes_read(p, s, &buffer[..n], words, ends, numbers, out);
+    let q = bytes_read(written, s, &buffer[..n], words, ends, numbers, out);
     Turn {
         progress: q,
         more: true,
