@@ -63,14 +63,21 @@ pub fn copy_row(words: &mut [u32; 256], row: &[u32], first: usize)
     }
 }
 
-// The names of eight fields, from first on, written where they are wanted: handed back, the eight bytes would be packed into one word
-// and taken apart again at every load.
+// The names of eight fields, from first on, written one by one where they are wanted: handed back, or put together as one array first,
+// the eight bytes would be packed into one word at every load.
 fn name_all(fields: &mut [u8; 8], first: u32)
     requires { ⌜ first ≤ 248 ⌝ }
     ensures { λ _. ⌜ now (fields .exit) ≡ upFrom first 8 ⌝ }
 {
     let f = first as u8;
-    *fields = [f, f + 1, f + 2, f + 3, f + 4, f + 5, f + 6, f + 7];
+    *fields = [f; 8];
+    fields[1] = f + 1;
+    fields[2] = f + 2;
+    fields[3] = f + 3;
+    fields[4] = f + 4;
+    fields[5] = f + 5;
+    fields[6] = f + 6;
+    fields[7] = f + 7;
 }
 
 // The size of a record type, 0 past the table.
