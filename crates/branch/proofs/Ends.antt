@@ -284,13 +284,13 @@ module _ (registers words frames constants views fields : List ℕ) (since base 
   abbrev v : ℕ
   v = getD registers a 0
 
-  pub equal-tells : opcodeOf w ≡ 11 → (c : ℕ) → c ≡ cOf w → (i tested past : ℕ) → i ≡ v → tested ≡ v
+  pub equal-tells : opcodeOf w ≡ 11 → (c : ℕ) → c ≡ cOf w → (i past : ℕ) → i ≡ v
       → retyped words frames constants v past ≡ pastZero (st .values) v (c / 256)
-      → Tells (record { v = v; taken = getD words i 0; untaken = past; tested = tested; equal = c / 256 + 1 }) words frames constants (endOf w) st
+      → Tells (record { v = v; taken = getD words i 0; untaken = past; tested = v; equal = c / 256 + 1 }) words frames constants (endOf w) st
   unfolding taken untaken
-  equal-tells o c ec i tested past ei et ep =
+  equal-tells o c ec i past ei ep =
       record {
-        on-taken = rw (end-equal w o, ← ea, ← ec, ei, set-same words v, et, add-one (c / 256));
+        on-taken = rw (end-equal w o, ← ea, ← ec, ei, set-same words v, add-one (c / 256));
         on-untaken = rw (end-equal w o, ← ea, ← ec) ep;
       }
 

@@ -8,7 +8,7 @@ ghost use Rattle.model.specs.Question.{Question, Refusal, isAnswer};
 ghost use Rattle.model.specs.Word.{opcodeOf, aOf, bOf};
 ghost use Rattle.model.specs.Table.{Routine};
 ghost use Rattle.model.specs.Machine.{decode, wellFormed};
-ghost use Rattle.model.specs.Reading.{typed, below, notBelow};
+ghost use Rattle.model.specs.Reading.{typed, below, notBelow, rowFits};
 ghost use Rattle.model.specs.Check.{readEdges};
 ghost use Rattle.instruction.specs.Rows.{opcodeRows};
 ghost use Rattle.instruction.specs.Form.{endOf};
@@ -108,7 +108,7 @@ struct EdgeFacts {
     v: u8,
     taken: u32,
     untaken: u32,
-    tested: u32,
+    tested: u8,
     equal: u32,
 }
 
@@ -126,35 +126,63 @@ fn learn(
 {
     let a = word::a(word);
     let v = registers[a];
-    if word::opcode(word) == instruction::IF_EQUAL {
-        let k = word::c(word) / 256;
-        let i = word::index(v);
-        let same = words[i];
-        let past = not_zero(words, v, k);
-        let tested = word::wide(v);
-        let equal = k + 1;
+    if word::opcode(word) == instruction::IF_LESS {
+        let b = word::b(word);
+        let u = word::wide(registers[b]);
+        let less = below(words, frames, constants, v, u);
+        let past = not_below(words, frames, constants, v, u);
         return EdgeFacts {
             v: v,
-            taken: same,
+            taken: less,
             untaken: past,
-            tested: tested,
-            equal: equal,
+            tested: 0,
+            equal: 0,
         };
     }
-    let b = word::b(word);
-    let u = word::wide(registers[b]);
-    let less = below(words, frames, constants, v, u);
-    let past = not_below(words, frames, constants, v, u);
+    let k = word::c(word) / 256;
+    let i = word::index(v);
+    let same = words[i];
+    let past = not_zero(words, v, k);
+    let equal = k + 1;
     EdgeFacts {
         v: v,
-        taken: less,
+        taken: same,
         untaken: past,
-        tested: 0,
-        equal: 0,
+        tested: v,
+        equal: equal,
     }
 }
 
 // ---- edges
+
+// Whether the registers meet the row of the block that an edge leads to. The value tested comes as a byte, so that the compiler knows it
+// to be no constant and leaves that test out of every comparison of names.
+fn edge(
+    tags: &[u32],
+    registers: &[u8; 8],
+    words: &[u32; 256],
+    frames: &[u8; 32],
+    constants: &[u32; 32],
+    tested: u8,
+    equal: u32,
+    row: &[u32],
+) -> bool
+    requires { ⌜ 8 ≤ length (now row) ⌝ }
+    ensures { λ r. ⌜ ((types : List ℕ)
+        → r ≡ rowFits (tablesIn types tags) (valuesIn words frames constants tested equal) 8 (now (row .entry)) (now (registers .entry))) ⌝ }
+{
+    fits::row_fits(
+        tags,
+        words,
+        frames,
+        constants,
+        tested as u32,
+        equal,
+        limit::REGISTERS,
+        row,
+        registers,
+    )
+}
 
 // Q14 and Q15 of a branch, each edge against the row of its block. The block ends here, so its type words need not be put back.
 fn fork(
@@ -175,31 +203,20 @@ fn fork(
 {
     let i = word::index(t.v);
     words[i] = t.taken;
-    if !fits::row_fits(
+    if !edge(
         tags,
+        registers,
         words,
         frames,
         constants,
         t.tested,
         t.equal,
-        limit::REGISTERS,
         taken,
-        registers,
     ) {
         return TAKEN_EDGE;
     }
     words[i] = t.untaken;
-    if !fits::row_fits(
-        tags,
-        words,
-        frames,
-        constants,
-        0,
-        0,
-        limit::REGISTERS,
-        untaken,
-        registers,
-    ) {
+    if !edge(tags, registers, words, frames, constants, 0, 0, untaken) {
         return UNTAKEN_EDGE;
     }
     PASSED
@@ -229,17 +246,7 @@ pub fn edges(
         return PASSED;
     }
     if op == instruction::JUMP {
-        if fits::row_fits(
-            tags,
-            words,
-            frames,
-            constants,
-            0,
-            0,
-            limit::REGISTERS,
-            taken,
-            registers,
-        ) {
+        if edge(tags, registers, words, frames, constants, 0, 0, taken) {
             return PASSED;
         }
         return TAKEN_EDGE;

@@ -37,17 +37,17 @@ opcode-requires c κs = search needs
 returns : tie.Need-returns
 returns c = (λ P b leads place types views fields since base. edges-halt _ P place b _ _ (omega arith), refl)
 
-row-fits-requires : tie.Need-row-fits-requires
-row-fits-requires c κs = search needs
+edge-requires : tie.Need-edge-requires
+edge-requires c κs = search needs
 
 returns-2 : tie.Need-returns-2
 returns-2 c =
-    let f = c .before .row-fits .ensures in
+    let f = c .before .edge .ensures in
     (λ P b leads place types views fields since base. jump-yes _ P place b _ _ (omega arith) _ _ leads _ (f types) (c .if3 .taken), refl)
 
 returns-3 : tie.Need-returns-3
 returns-3 c =
-    let f = c .before .row-fits .ensures in (
+    let f = c .before .edge .ensures in (
       λ P b leads place types views fields since base. jump-no _ P place b _ _ (omega arith) _ _ leads _ (f types) (c .if3 .left),
       answer-of _ q14 refl,
     )
@@ -78,7 +78,7 @@ edges-spec =
     (tie.spec
     opcode-requires
     returns
-    row-fits-requires
+    edge-requires
     returns-2
     returns-3
     learn-requires

@@ -11,13 +11,13 @@ use Rattle.branch.proofs.fork.Tie as tie
 
 -- ---- places: the taken edge asked, and past it
 
-abbrev index : tie.After-row-fits → tie.After-index
+abbrev index : tie.After-edge → tie.After-index
 index c = c .before .before
 
-abbrev start : tie.After-row-fits → tie.Start
+abbrev start : tie.After-edge → tie.Start
 start c = index c .before .before .before .before
 
-abbrev past : tie.After-row-fits2 → tie.Else1
+abbrev past : tie.After-edge2 → tie.Else1
 past c = c .before .before
 
 -- ---- the needs
@@ -31,8 +31,8 @@ mul-words c = search needs
 element-write-words : tie.Need-element-write-words
 element-write-words c = search needs
 
-row-fits-requires : tie.Need-row-fits-requires
-row-fits-requires c κs = search needs
+edge-requires : tie.Need-edge-requires
+edge-requires c κs = search needs
 
 returns : tie.Need-returns
 returns c =
@@ -40,7 +40,7 @@ returns c =
     let s = start f .args in (
       λ place types.
           fork-taken _ _ _ (now (s .words)) (now (s .frames)) (now (s .constants)) _ (now (s .untaken)) (s .t) _ (index f .index .ensures .0) _
-          (f .row-fits .ensures types) (not-true _ (c .if1 .taken)),
+          (f .edge .ensures types) (not-true _ (c .if1 .taken)),
       answer-of _ q14 refl,
     )
 
@@ -50,8 +50,8 @@ mul-words-2 c = search needs
 element-write-words-2 : tie.Need-element-write-words-2
 element-write-words-2 c = search needs
 
-row-fits-requires-2 : tie.Need-row-fits-requires-2
-row-fits-requires-2 c κs = search needs
+edge-requires-2 : tie.Need-edge-requires-2
+edge-requires-2 c κs = search needs
 
 returns-2 : tie.Need-returns-2
 returns-2 c =
@@ -61,7 +61,7 @@ returns-2 c =
     let s = start f .args in (
       λ place types.
           fork-untaken _ _ _ (now (s .words)) (now (s .frames)) (now (s .constants)) _ _ (s .t) _ (index f .index .ensures .0) _
-          (f .row-fits .ensures types) (not-false _ (e .if1 .left)) _ (h .row-fits2 .ensures types) (not-true _ (c .if2 .taken)),
+          (f .edge .ensures types) (not-false _ (e .if1 .left)) _ (h .edge2 .ensures types) (not-true _ (c .if2 .taken)),
       answer-of _ q15 refl,
     )
 
@@ -73,7 +73,7 @@ returns-3 c =
     let s = start f .args in (
       λ place types.
           fork-both _ _ _ (now (s .words)) (now (s .frames)) (now (s .constants)) _ _ (s .t) _ (index f .index .ensures .0) _
-          (f .row-fits .ensures types) (not-false _ (e .if1 .left)) _ (h .row-fits2 .ensures types) (not-false _ (c .if2 .left)),
+          (f .edge .ensures types) (not-false _ (e .if1 .left)) _ (h .edge2 .ensures types) (not-false _ (c .if2 .left)),
       refl,
     )
 
@@ -84,10 +84,10 @@ fork-spec =
     index-requires
     mul-words
     element-write-words
-    row-fits-requires
+    edge-requires
     returns
     mul-words-2
     element-write-words-2
-    row-fits-requires-2
+    edge-requires-2
     returns-2
     returns-3)
