@@ -58,9 +58,9 @@ fn inside(
         since: 0,
         base: NO_BASE,
     };
-    let last = part.len() - 1;
+    let n = part.len();
     let mut j = 0;
-    while j < last {
+    while j + 1 < n {
         let word = part[j];
         let g = j + 1;
         let i = Fetched { word, g, s };
@@ -224,16 +224,10 @@ fn judge(
 
 // ---- the check
 
-// Q1 to Q6. starts gets where each block starts.
-fn tables(
-    types: &[u32],
-    tags: &[u32],
-    blocks: &[u32],
-    code: &[u32],
-    starts: &mut [u32; limit::BLOCKS + 1],
-) -> Verdict
-    ensures verdict { λ r. ⌜ r ≡ verdictOf (tablesAsk (now (types .entry)) (now (tags .entry)) (codeOf (now (blocks .entry)) (now (code .entry)))) ⌝ }
-    ensures filled { λ r. ⌜ (length (now (starts .entry)) ≡ 257 → r .number ≡ 0 → Starts (now (blocks .entry)) (now (starts .exit))) ⌝ }
+// The check of a routine: the first no of Q1 to Q15, with its place. All questions of the tables are asked here: so the compiler takes
+// the blocks for what is seldom come to, and leaves `judge` a function of its own, in which the loops have the registers to themselves.
+pub fn check(types: &[u32], tags: &[u32], blocks: &[u32], code: &[u32]) -> Verdict
+    ensures { λ r. ⌜ r ≡ check (now (types .entry)) (now (tags .entry)) (codeOf (now (blocks .entry)) (now (code .entry))) ⌝ }
 {
     let type_lengths = table::type_lengths(types.len(), tags.len());
     if type_lengths.number != number::PASSED {
@@ -247,21 +241,14 @@ fn tables(
     if records.number != number::PASSED {
         return records;
     }
-    let lengths = table::lengths(blocks, code, starts);
+    let mut starts = [0u32; limit::BLOCKS + 1];
+    let lengths = table::lengths(blocks, code, &mut starts);
     if lengths.number != number::PASSED {
         return lengths;
     }
-    table::annotations((types.len() / limit::ROW_WORDS) as u32, blocks)
-}
-
-// The check of a routine: the first no of Q1 to Q15, with its place.
-pub fn check(types: &[u32], tags: &[u32], blocks: &[u32], code: &[u32]) -> Verdict
-    ensures { λ r. ⌜ r ≡ check (now (types .entry)) (now (tags .entry)) (codeOf (now (blocks .entry)) (now (code .entry))) ⌝ }
-{
-    let mut starts = [0u32; limit::BLOCKS + 1];
-    let v = tables(types, tags, blocks, code, &mut starts);
-    if v.number != number::PASSED {
-        return v;
+    let annotations = table::annotations((types.len() / limit::ROW_WORDS) as u32, blocks);
+    if annotations.number != number::PASSED {
+        return annotations;
     }
     judge(types, tags, blocks, code, &starts)
 }

@@ -12,12 +12,12 @@ use Rattle.verify.proofs.inside.Statement.{statement}
 use Rattle.verify.proofs.inside.Tie as tie
 
 abbrev Inv-loop : tie.InvT-loop
-Inv-loop rows types tags registers₀ words₀ frames₀ constants₀ part views₀ fields₀ s₀ last j₀ registers words frames constants views fields s j =
+Inv-loop rows types tags registers₀ words₀ frames₀ constants₀ part views₀ fields₀ s₀ n j₀ registers words frames constants views fields s j =
     InsideLeft (tablesOf types tags) part (begun registers₀ words₀ frames₀ constants₀)
     (reading registers words frames constants views fields (s .since) (s .base)) (s .number) j
 
 abbrev μ-loop : tie.MeasureT-loop
-μ-loop rows types tags registers₀ words₀ frames₀ constants₀ part views₀ fields₀ s₀ last j₀ registers words frames constants views fields s j =
+μ-loop rows types tags registers₀ words₀ frames₀ constants₀ part views₀ fields₀ s₀ n j₀ registers words frames constants views fields s j =
     length part - j
 
 -- ---- places: a round of the loop, the instruction read
@@ -36,11 +36,11 @@ before-last c = omega (arith, inside (c .before) .loop-test)
 
 -- ---- the needs
 
-sub-last : tie.Need-sub-last Inv-loop μ-loop
-sub-last c = omega arith
-
 loop-holds : tie.Need-loop-holds Inv-loop μ-loop
 loop-holds c = inside-begins _ _ _ (omega arith)
+
+add-loop : tie.Need-add-loop Inv-loop μ-loop
+add-loop c = omega arith
 
 mul-word : tie.Need-mul-word Inv-loop μ-loop
 mul-word c = omega arith
@@ -97,8 +97,8 @@ inside-spec =
     (tie.spec
     Inv-loop
     μ-loop
-    sub-last
     loop-holds
+    add-loop
     mul-word
     shared-slice-read-word
     add-g
