@@ -159,10 +159,10 @@ fn block(
 {
     let own = table::row(blocks, b);
     let mut registers = [0u8, 1, 2, 3, 4, 5, 6, 7];
-    let mut words = [0u32; 256];
-    straight::copy_row(&mut words, &own[1..], 0);
     let mut frames = [0u8; 32];
     let mut constants = [0u32; 32];
+    let mut words = [0u32; 256];
+    straight::copy_row(&mut words, &own[1..], 0);
     let r = inside(
         rows,
         types,
