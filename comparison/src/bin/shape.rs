@@ -2,6 +2,7 @@
 //! load does not matter to it. Where there is no objdump it says so and passes.
 //!
 //! - Known equality is split: the callers ask whether two values are one, and the rest is `fits::joined`, a function of its own.
+//! - The check's loops have a function to themselves, `verify::judge`: as a part of `ramdulsi_check` they would be compiled as seldom run.
 //! - A run copies neither its registers nor a table from instruction to instruction or from block to block: no vector register is used
 //!   where control can come from opcode 6's division and go back to it. Nor does it hand two numbers on as the halves of one register:
 //!   no shift by 32 is there. Copies before the loop and after it are free.
@@ -149,6 +150,14 @@ fn split(all: &[Instruction]) -> Result<String, String> {
     }
 }
 
+/// What is wrong with the check's loops, and what is right.
+fn apart(all: &[Instruction]) -> Result<String, String> {
+    if all.iter().any(|i| i.function == "verify::judge") {
+        return Ok("verify::judge is a function of its own".to_string());
+    }
+    Err("no function verify::judge; expected one of its own: verify::check asks all questions of the tables itself, so that it is seldom called".to_string())
+}
+
 /// What is wrong with the loop of the run, and what is right.
 fn narrow(all: &[Instruction]) -> Result<String, String> {
     let run = called(all, "ramdulsi_run");
@@ -194,7 +203,7 @@ fn main() {
         }
     };
     let all = read(&text);
-    let found = [split(&all), narrow(&all)];
+    let found = [split(&all), apart(&all), narrow(&all)];
     for Ok(line) | Err(line) in &found {
         println!("shape: {line}");
     }
