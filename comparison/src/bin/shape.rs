@@ -155,7 +155,8 @@ fn apart(all: &[Instruction]) -> Result<String, String> {
     if all.iter().any(|i| i.function == "verify::judge") {
         return Ok("verify::judge is a function of its own".to_string());
     }
-    Err("no function verify::judge; expected one of its own: verify::check asks all questions of the tables itself, so that it is seldom called".to_string())
+    Err("no function verify::judge; expected one of its own, seldom called: verify::check asks the questions of the tables itself"
+        .to_string())
 }
 
 /// What is wrong with the loop of the run, and what is right.

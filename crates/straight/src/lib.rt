@@ -63,8 +63,8 @@ pub fn copy_row(words: &mut [u32; 256], row: &[u32], first: usize)
     }
 }
 
-// The names of eight fields, from first on, written one by one where they are wanted: handed back, or put together as one array first,
-// the eight bytes would be packed into one word at every load.
+// The names of eight fields, from first on, written one by one where they are wanted. Handed back, the eight bytes would be packed into one
+// word and taken apart again at every load; made as one array, they would all be held in registers at once, and the loop's own pushed out.
 fn name_all(fields: &mut [u8; 8], first: u32)
     requires { ⌜ first ≤ 248 ⌝ }
     ensures { λ _. ⌜ now (fields .exit) ≡ upFrom first 8 ⌝ }
