@@ -1,90 +1,168 @@
-// Bytes on their way to standard output, held back until a buffer is full.
-ghost use Prim.Native.Nat.{_<_};
+// What the program answers, put into a buffer after what the buffer holds already. Nothing is written out here.
+ghost use mathlib.Core.Path.{_≡_};
+ghost use mathlib.Core.List.{[], _∷_};
+ghost use Prim.Native.Nat.{_+_, _*_, _≤_};
+ghost use lib.ListN.{length};
+ghost use Rattle.protocol.specs.Text.{decimal, fields, verdictText, runText, malformedText};
+ghost use Rattle.protocol.specs.Text.{field as fieldText};
+ghost use Rattle.output.specs.Appended.{Appended};
+ghost use Rattle.output.specs.Digits.{lastDigits};
 use model::RunAnswer;
 use model::Verdict;
 
-fn write_front(bytes: &[u8], n: usize) {
-    if n <= 65536 {
-        let held = io::count(n as isize, bytes);
-        io::write_all(1, &bytes[..held]);
-    }
-}
+// The bytes that a buffer holds. An answer has at most 135,168 words of ten digits, each after a blank, and some hundred bytes more.
+pub const SPACE: usize = 2097152;
 
-// What stands in the buffer is written out.
-pub fn flush(out: &[u8; 65536], n: usize) {
-    write_front(out, n);
-}
+// ---- bytes
 
-// A place for one more byte.
-fn room(out: &[u8; 65536], n: usize) -> usize
-    ensures { λ r. ⌜ r < 65536 ⌝ }
+fn store(out: &mut [u8], n: usize, byte: u8)
+    requires { ⌜ n + 1 ≤ length (now out) ⌝ }
+    ensures { λ _. ⌜ Appended (now (out .entry)) n (byte ∷ []) (n + 1) (now (out .exit)) ⌝ }
 {
-    if n < 65536 {
-        return n;
-    }
-    io::write_all(1, out);
-    0
+    out[n] = byte;
 }
 
-pub fn put(out: &mut [u8; 65536], n: usize, byte: u8) -> usize {
-    let at = room(out, n);
-    out[at] = byte;
-    at + 1
+pub fn put(out: &mut [u8; 2097152], n: usize, byte: u8) -> usize
+    requires { ⌜ n + 1 ≤ 2097152 ⌝ }
+    ensures { λ r. ⌜ Appended (now (out .entry)) n (byte ∷ []) r (now (out .exit)) ⌝ }
+{
+    store(out, n, byte);
+    n + 1
 }
 
-pub fn text(out: &mut [u8; 65536], n: usize, bytes: &[u8]) -> usize {
-    let mut at = n;
+fn copy(out: &mut [u8], n: usize, bytes: &[u8])
+    requires { ⌜ n + length (now bytes) ≤ length (now out) ⌝ }
+    ensures { λ _. ⌜ Appended (now (out .entry)) n (now (bytes .entry)) (n + length (now (bytes .entry))) (now (out .exit)) ⌝ }
+{
     let mut i = 0;
     while i < bytes.len() {
-        at = put(out, at, bytes[i]);
+        out[n + i] = bytes[i];
         i += 1;
     }
-    at
 }
 
-pub fn number(out: &mut [u8; 65536], n: usize, value: u64) -> usize {
-    let mut digits = [0u8; 20];
-    let k = io::decimal(value, &mut digits);
-    text(out, n, &digits[..k])
+pub fn text(out: &mut [u8; 2097152], n: usize, bytes: &[u8]) -> usize
+    requires { ⌜ n + length (now bytes) ≤ 2097152 ⌝ }
+    ensures { λ r. ⌜ Appended (now (out .entry)) n (now (bytes .entry)) r (now (out .exit)) ⌝ }
+{
+    copy(out, n, bytes);
+    n + bytes.len()
 }
 
-// A blank and a number.
-pub fn field(out: &mut [u8; 65536], n: usize, value: u64) -> usize {
-    let at = put(out, n, b' ');
-    number(out, at, value)
-}
-
-pub fn line_end(out: &mut [u8; 65536], n: usize) -> usize {
+pub fn line_end(out: &mut [u8; 2097152], n: usize) -> usize
+    requires { ⌜ n + 1 ≤ 2097152 ⌝ }
+    ensures { λ r. ⌜ Appended (now (out .entry)) n (10 ∷ []) r (now (out .exit)) ⌝ }
+{
     put(out, n, b'\n')
 }
 
-// NUMBER A B
-pub fn verdict(out: &mut [u8; 65536], n: usize, v: Verdict) -> usize {
-    let a = number(out, n, v.number as u64);
-    let b = field(out, a, v.first as u64);
-    field(out, b, v.second as u64)
+// ---- numbers
+
+// How many digits a number has.
+fn places(value: u64) -> usize
+    ensures { λ r. ⌜ decimal value ≡ lastDigits r value ⌝ }
+{
+    let mut k = 1;
+    let mut power = 10;
+    while power <= value {
+        if k == 19 {
+            return 20;
+        }
+        power *= 10;
+        k += 1;
+    }
+    k
 }
 
-fn wide(x: u32) -> u64 {
-    x as u64
+// The last k digits of a number, from the last to the first.
+fn fill(out: &mut [u8], n: usize, k: usize, value: u64)
+    requires { ⌜ n + k ≤ length (now out) ⌝ }
+    ensures { λ _. ⌜ Appended (now (out .entry)) n (lastDigits k value) (n + k) (now (out .exit)) ⌝ }
+{
+    let mut at = n + k;
+    let mut rest = value;
+    while n < at {
+        at -= 1;
+        out[at] = 48 + (rest % 10) as u8;
+        rest /= 10;
+    }
+}
+
+// A number where there is room for just its digits.
+fn digits(out: &mut [u8; 2097152], n: usize, value: u64) -> usize
+    requires { ⌜ n + length (decimal value) ≤ 2097152 ⌝ }
+    ensures { λ r. ⌜ Appended (now (out .entry)) n (decimal value) r (now (out .exit)) ⌝ }
+{
+    let k = places(value);
+    fill(out, n, k, value);
+    n + k
+}
+
+pub fn number(out: &mut [u8; 2097152], n: usize, value: u64) -> usize
+    requires { ⌜ n + 20 ≤ 2097152 ⌝ }
+    ensures { λ r. ⌜ Appended (now (out .entry)) n (decimal value) r (now (out .exit)) ⌝ }
+    ensures { λ r. ⌜ r ≤ n + 20 ⌝ }
+{
+    digits(out, n, value)
+}
+
+// A blank and a number.
+pub fn field(out: &mut [u8; 2097152], n: usize, value: u64) -> usize
+    requires { ⌜ n + 21 ≤ 2097152 ⌝ }
+    ensures { λ r. ⌜ Appended (now (out .entry)) n (fieldText value) r (now (out .exit)) ⌝ }
+    ensures { λ r. ⌜ r ≤ n + 21 ⌝ }
+{
+    let at = put(out, n, b' ');
+    digits(out, at, value)
+}
+
+// A blank and a word, which has no more than ten digits.
+fn word(out: &mut [u8; 2097152], n: usize, value: u32) -> usize
+    requires { ⌜ n + 11 ≤ 2097152 ⌝ }
+    ensures { λ r. ⌜ Appended (now (out .entry)) n (fieldText value) r (now (out .exit)) ⌝ }
+    ensures { λ r. ⌜ r ≤ n + 11 ⌝ }
+{
+    let at = put(out, n, b' ');
+    digits(out, at, value as u64)
 }
 
 // A blank before each word of a list.
-pub fn words(out: &mut [u8; 65536], n: usize, list: &[u32]) -> usize {
+pub fn words(out: &mut [u8; 2097152], n: usize, list: &[u32]) -> usize
+    requires { ⌜ n + 11 * length (now list) ≤ 2097152 ⌝ }
+    ensures { λ r. ⌜ Appended (now (out .entry)) n (fields (now (list .entry))) r (now (out .exit)) ⌝ }
+    ensures { λ r. ⌜ r ≤ n + 11 * length (now (list .entry)) ⌝ }
+{
     let mut at = n;
     let mut i = 0;
     while i < list.len() {
-        at = field(out, at, wide(list[i]));
+        at = word(out, at, list[i]);
         i += 1;
     }
     at
 }
 
+// ---- answers
+
+// NUMBER A B
+pub fn verdict(out: &mut [u8; 2097152], n: usize, v: Verdict) -> usize
+    requires { ⌜ n + 42 ≤ 2097152 ⌝ }
+    ensures { λ r. ⌜ Appended (now (out .entry)) n (verdictText v) r (now (out .exit)) ⌝ }
+    ensures { λ r. ⌜ r ≤ n + 42 ⌝ }
+{
+    let a = number(out, n, v.number as u64);
+    let b = word(out, a, v.first);
+    word(out, b, v.second)
+}
+
 // NUMBER BLOCK INDEX FINISHED R0 .. R7 COUNT WORDS..
-pub fn run_answer(out: &mut [u8; 65536], n: usize, r: RunAnswer, memory: &[u32]) -> usize {
+pub fn run_answer(out: &mut [u8; 2097152], n: usize, r: RunAnswer, memory: &[u32]) -> usize
+    requires { ⌜ n + 172 + 11 * length (now memory) ≤ 2097152 ⌝ }
+    ensures { λ a. ⌜ Appended (now (out .entry)) n (runText r (now (memory .entry))) a (now (out .exit)) ⌝ }
+    ensures { λ a. ⌜ a ≤ n + 172 + 11 * length (now (memory .entry)) ⌝ }
+{
     let a = number(out, n, r.number as u64);
-    let b = field(out, a, r.block as u64);
-    let c = field(out, b, r.index as u64);
+    let b = word(out, a, r.block);
+    let c = word(out, b, r.index);
     let d = field(out, c, r.finished);
     let registers = r.registers;
     let e = words(out, d, &registers);
@@ -92,8 +170,12 @@ pub fn run_answer(out: &mut [u8; 65536], n: usize, r: RunAnswer, memory: &[u32])
     words(out, f, memory)
 }
 
-// malformed STOP
-pub fn malformed(out: &mut [u8; 65536], n: usize, stop: u64) -> usize {
+// malformed PLACE
+pub fn malformed(out: &mut [u8; 2097152], n: usize, place: u64) -> usize
+    requires { ⌜ n + 30 ≤ 2097152 ⌝ }
+    ensures { λ r. ⌜ Appended (now (out .entry)) n (malformedText place) r (now (out .exit)) ⌝ }
+    ensures { λ r. ⌜ r ≤ n + 30 ⌝ }
+{
     let a = text(out, n, b"malformed");
-    field(out, a, stop)
+    field(out, a, place)
 }

@@ -1,9 +1,13 @@
 // Writes docs/REFUSALS.md: the table of answers in words, then the requests on standard input, each with its answer.
+ghost use Prim.Native.Nat.{_<_, _≤_};
+ghost use lib.ListN.{length};
+ghost use Rattle.service.specs.Filling.{Ready};
 use model::number;
+use service::Place;
 use service::Style;
 
-fn heading(out: &mut [u8; 65536], n: usize) -> usize {
-    output::text(
+fn heading(out: &mut [u8; 2097152], n: usize) -> usize {
+    page::text(
         out,
         n,
         b"# Answers by number\n\
@@ -17,8 +21,8 @@ fn heading(out: &mut [u8; 65536], n: usize) -> usize {
     )
 }
 
-fn titles(out: &mut [u8; 65536], n: usize) -> usize {
-    output::text(
+fn titles(out: &mut [u8; 2097152], n: usize) -> usize {
+    page::text(
         out,
         n,
         b"| Number | Name | Meaning | Usual cause | How to mend | Place |\n\
@@ -26,29 +30,32 @@ fn titles(out: &mut [u8; 65536], n: usize) -> usize {
     )
 }
 
-fn cell(out: &mut [u8; 65536], n: usize, row: u32, column: u32) -> usize {
-    let a = output::text(out, n, b" | ");
-    words::column(out, a, row, column)
+fn cell(out: &mut [u8; 2097152], n: usize, row: u32, column: u32) -> usize {
+    let at = page::text(out, n, b" | ");
+    if page::HALF < at {
+        return at;
+    }
+    words::column(out, at, row, column)
 }
 
 // A row after its number.
-fn columns(out: &mut [u8; 65536], n: usize, row: u32) -> usize {
+fn columns(out: &mut [u8; 2097152], n: usize, row: u32) -> usize {
     let a = cell(out, n, row, words::NAME);
     let b = cell(out, a, row, words::MEANING);
     let c = cell(out, b, row, words::CAUSE);
     let d = cell(out, c, row, words::REMEDY);
     let e = cell(out, d, row, words::PLACE);
-    output::text(out, e, b" |\n")
+    page::text(out, e, b" |\n")
 }
 
-fn numbered(out: &mut [u8; 65536], n: usize, row: u32) -> usize {
-    let a = output::text(out, n, b"| ");
-    let b = output::number(out, a, row as u64);
+fn numbered(out: &mut [u8; 2097152], n: usize, row: u32) -> usize {
+    let a = page::text(out, n, b"| ");
+    let b = page::number(out, a, row as u64);
     columns(out, b, row)
 }
 
 // The rows of the questions.
-fn numbers(out: &mut [u8; 65536], n: usize) -> usize {
+fn numbers(out: &mut [u8; 2097152], n: usize) -> usize {
     let mut at = n;
     let mut row = number::TABLE_LENGTH;
     while row <= words::LAST {
@@ -58,41 +65,114 @@ fn numbers(out: &mut [u8; 65536], n: usize) -> usize {
     at
 }
 
-fn table(out: &mut [u8; 65536], n: usize) -> usize {
+fn table(out: &mut [u8; 2097152], n: usize) -> usize {
     let a = titles(out, n);
     let b = numbered(out, a, number::PASSED);
-    let c = output::text(out, b, b"| 0");
+    let c = page::text(out, b, b"| 0");
     let d = columns(out, c, words::HALTED);
     let e = numbers(out, d);
     let f = numbered(out, e, number::PAUSED);
-    let g = output::text(out, f, b"| `malformed`");
+    let g = page::text(out, f, b"| `malformed`");
     columns(out, g, words::MALFORMED)
 }
 
-fn examples(out: &mut [u8; 65536], n: usize) -> usize {
-    output::text(
+fn examples(out: &mut [u8; 2097152], n: usize) -> usize {
+    page::text(
         out,
         n,
         b"\n\
-          ## A small request for each\n\
+          ## Requests by answer and cause\n\
           \n\
-          The requests of `examples/refusals.txt`, each followed by its answer.\n\
+          The requests of `examples/refusals.txt`, each followed by its answer: one for each cause, and one that is mended.\n\
           \n\
           ```\n",
     )
 }
 
+// ---- the requests
+
+// Where the line that begins at a place ends, with its line end.
+fn past_line(bytes: &[u8], from: usize) -> usize
+    requires { ⌜ from < length (now bytes) ⌝ }
+    ensures { λ r. ⌜ (from < r) × (r ≤ length (now (bytes .entry))) ⌝ }
+{
+    let mut i = from;
+    while i < bytes.len() {
+        if bytes[i] == b'\n' {
+            return i + 1;
+        }
+        i += 1;
+    }
+    i
+}
+
+// A line, and after it what it is answered.
+fn with_answer(
+    bytes: &[u8],
+    p: Place,
+    words: &mut [u32; 135168],
+    ends: &mut [usize; 7],
+    longs: &mut [u64; 1],
+    space: &mut [u32; 135168],
+    out: &mut [u8; 2097152],
+) -> Place
+    requires { ⌜ Ready p × (0 < length (now bytes)) ⌝ }
+    ensures { λ r. ⌜ Ready r ⌝ }
+{
+    let s = Style {
+        worded: true,
+        lined: false,
+    };
+    io::write_all(libc::STDOUT_FILENO, bytes);
+    let f = service::fill(bytes, 0, p, s, words, ends, longs, space, out);
+    let q = f.place;
+    page::write(out, q.held);
+    service::written(q)
+}
+
+// Each line with its answer.
+fn answered(
+    bytes: &[u8],
+    words: &mut [u32; 135168],
+    ends: &mut [usize; 7],
+    longs: &mut [u64; 1],
+    space: &mut [u32; 135168],
+    out: &mut [u8; 2097152],
+) {
+    let mut p = service::start(false);
+    let mut at = 0;
+    while at < bytes.len() {
+        let next = past_line(bytes, at);
+        p = with_answer(&bytes[at..next], p, words, ends, longs, space, out);
+        at = next;
+    }
+}
+
+// The requests on standard input, as far as they fit into one buffer.
+fn requests(out: &mut [u8; 2097152]) {
+    let mut words = [0u32; 135168];
+    let mut ends = [0usize; 7];
+    let mut longs = [0u64; 1];
+    let mut space = [0u32; 135168];
+    let mut buffer = io::large_buffer();
+    let n = io::read_full(libc::STDIN_FILENO, &mut buffer);
+    answered(
+        &buffer[..n],
+        &mut words,
+        &mut ends,
+        &mut longs,
+        &mut space,
+        out,
+    );
+}
+
 fn main() {
-    let mut out = [0u8; 65536];
+    let mut out = [0u8; 2097152];
     let a = heading(&mut out, 0);
     let b = table(&mut out, a);
     let c = examples(&mut out, b);
-    output::flush(&out, c);
-    let s = Style {
-        worded: true,
-        echoed: true,
-    };
-    service::serve(s);
-    let d = output::text(&mut out, 0, b"```\n");
-    output::flush(&out, d);
+    page::write(&out, c);
+    requests(&mut out);
+    let d = page::text(&mut out, 0, b"```\n");
+    page::write(&out, d);
 }

@@ -2,6 +2,9 @@
 // words and docs/REFUSALS.md are both made from here.
 mod rows;
 
+ghost use Prim.Native.Nat.{_+_, _≤_};
+ghost use Rattle.words.specs.Row.{columnOf, answerText, saidText};
+ghost use Rattle.words.specs.Told.{Told};
 use model::number;
 
 // ---- the rows
@@ -25,88 +28,98 @@ pub const REMEDY: u32 = 3;
 
 pub const PLACE: u32 = 4;
 
-pub struct Asked {
-    pub column: u32,
-    // whether A and B of a place are written as the numbers answered
+// How the letters A and B are written.
+pub struct Letters {
+    // as the numbers answered
     pub answered: bool,
     pub first: u64,
     pub second: u64,
 }
 
-fn cell(out: &mut [u8; 65536], n: usize, row: u32, a: Asked) -> usize {
-    if row == number::PASSED {
-        return rows::outcomes(out, n, row, a);
-    }
-    if row <= number::FIELD_COUNT {
-        return rows::lengths(out, n, row, a);
-    }
-    if row <= number::TAG {
-        return rows::types(out, n, row, a);
-    }
-    if row <= number::ANNOTATION {
-        return rows::blocks(out, n, row, a);
-    }
-    if row <= number::TARGET {
-        return rows::forms(out, n, row, a);
-    }
-    if row <= number::OTHER_RECORD {
-        return rows::accesses(out, n, row, a);
-    }
-    if row <= number::UNTAKEN_EDGE {
-        return rows::ends(out, n, row, a);
-    }
+pub struct Asked {
+    pub number: u32,
+    // an answer in words, or else one column
+    pub whole: bool,
+    pub column: u32,
+    pub first: u64,
+    pub second: u64,
+}
+
+fn later(out: &mut [u8; 2097152], n: usize, a: Asked) -> usize
+    requires { ⌜ n + 16384 ≤ 2097152 ⌝ }
+    ensures { λ r. ⌜ Told (saidText a) (now (out .entry)) n r (now (out .exit)) ⌝ }
+{
+    let row = a.number;
     if row <= number::ADDRESS {
-        return rows::runs(out, n, row, a);
+        return rows::runs(out, n, a);
     }
     if row <= number::FIELD {
-        return rows::records(out, n, row, a);
+        return rows::records(out, n, a);
     }
     if row <= LAST {
-        return rows::registers(out, n, row, a);
+        return rows::registers(out, n, a);
     }
     if row == number::PAUSED {
-        return rows::outcomes(out, n, row, a);
+        return rows::outcomes(out, n, a);
     }
-    rows::others(out, n, row, a)
+    rows::others(out, n, a)
+}
+
+fn cell(out: &mut [u8; 2097152], n: usize, a: Asked) -> usize
+    requires { ⌜ n + 16384 ≤ 2097152 ⌝ }
+    ensures { λ r. ⌜ Told (saidText a) (now (out .entry)) n r (now (out .exit)) ⌝ }
+{
+    let row = a.number;
+    if row == number::PASSED {
+        return rows::outcomes(out, n, a);
+    }
+    if row <= number::FIELD_COUNT {
+        return rows::lengths(out, n, a);
+    }
+    if row <= number::TAG {
+        return rows::types(out, n, a);
+    }
+    if row <= number::ANNOTATION {
+        return rows::blocks(out, n, a);
+    }
+    if row <= number::TARGET {
+        return rows::forms(out, n, a);
+    }
+    if row <= number::OTHER_RECORD {
+        return rows::accesses(out, n, a);
+    }
+    if row <= number::UNTAKEN_EDGE {
+        return rows::ends(out, n, a);
+    }
+    later(out, n, a)
 }
 
 // A column of a row; nothing for a number that is no answer.
-pub fn column(out: &mut [u8; 65536], n: usize, row: u32, column: u32) -> usize {
+pub fn column(out: &mut [u8; 2097152], n: usize, row: u32, column: u32) -> usize
+    requires { ⌜ n + 16384 ≤ 2097152 ⌝ }
+    ensures { λ r. ⌜ Told (columnOf column) (now (out .entry)) n r (now (out .exit)) ⌝ }
+{
     let a = Asked {
+        number: row,
+        whole: false,
         column: column,
-        answered: false,
         first: 0,
         second: 0,
     };
-    cell(out, n, row, a)
-}
-
-// The place that was answered; nothing for the rows that answer 0, 0 whatever the cause.
-fn place(out: &mut [u8; 65536], n: usize, row: u32, first: u64, second: u64) -> usize {
-    if row == number::PASSED {
-        return n;
-    }
-    if row == number::START_BLOCK {
-        return n;
-    }
-    if row == number::MEMORY_LENGTH {
-        return n;
-    }
-    let a = Asked {
-        column: PLACE,
-        answered: true,
-        first: first,
-        second: second,
-    };
-    let at = output::text(out, n, b"; at ");
-    cell(out, at, row, a)
+    cell(out, n, a)
 }
 
 // An answer in words, after it on its line: name, meaning and place.
-pub fn explain(out: &mut [u8; 65536], n: usize, row: u32, first: u64, second: u64) -> usize {
-    let a = output::text(out, n, b"  # ");
-    let b = column(out, a, row, NAME);
-    let c = output::text(out, b, b": ");
-    let d = column(out, c, row, MEANING);
-    place(out, d, row, first, second)
+pub fn explain(out: &mut [u8; 2097152], n: usize, row: u32, first: u64, second: u64) -> usize
+    requires { ⌜ n + 16384 ≤ 2097152 ⌝ }
+    ensures { λ r. ⌜ Told (answerText row first second) (now (out .entry)) n r (now (out .exit)) ⌝ }
+{
+    let a = Asked {
+        number: row,
+        whole: true,
+        column: NAME,
+        first: first,
+        second: second,
+    };
+    cell(out, n, a)
 }

@@ -1,43 +1,148 @@
-// The rows. A row is its columns in order, with bars between them: name, meaning, usual cause, remedy, place.
+// The rows, and what is said of one. A row is its columns in order, with bars between them: name, meaning, usual cause, remedy, place.
+ghost use mathlib.Core.Path.{_≡_};
+ghost use Prim.Native.Nat.{_+_, _≤_};
+ghost use lib.ListN.{length, drop};
+ghost use Rattle.output.specs.Appended.{Appended};
+ghost use Rattle.words.specs.Row.{afterByte, columnOf, letterText, written, hasPlace, placeText, answerText, saidText, Fine};
+ghost use Rattle.words.specs.Told.{Told};
 use super::Asked;
+use super::Letters;
 use model::number;
 
-fn letter(out: &mut [u8; 65536], n: usize, a: Asked, byte: u8) -> usize {
-    if a.answered {
-        if byte == b'A' {
-            return output::number(out, n, a.first);
+// ---- a column of a row
+
+fn after_byte(left: u32, byte: u8) -> u32
+    requires { ⌜ 1 ≤ left ⌝ }
+    ensures { λ r. ⌜ r ≡ afterByte left byte ⌝ }
+{
+    if byte == b'|' {
+        return left - 1;
+    }
+    left
+}
+
+// Where a column begins.
+fn start(k: u32, row: &[u8]) -> usize
+    ensures { λ r. ⌜ (r ≤ length (now (row .entry))) × (columnOf 0 (drop r (now (row .entry))) ≡ columnOf k (now (row .entry))) ⌝ }
+{
+    let mut left = k;
+    let mut i = 0;
+    while i < row.len() {
+        if left == 0 {
+            return i;
         }
-        if byte == b'B' {
-            return output::number(out, n, a.second);
-        }
+        left = after_byte(left, row[i]);
+        i += 1;
+    }
+    i
+}
+
+fn letter(out: &mut [u8; 2097152], n: usize, l: Letters, byte: u8) -> usize
+    requires { ⌜ n + 20 ≤ 2097152 ⌝ }
+    ensures { λ r. ⌜ Appended (now (out .entry)) n (letterText l byte) r (now (out .exit)) ⌝ }
+{
+    if !l.answered {
+        return output::put(out, n, byte);
+    }
+    if byte == b'A' {
+        return output::number(out, n, l.first);
+    }
+    if byte == b'B' {
+        return output::number(out, n, l.second);
     }
     output::put(out, n, byte)
 }
 
-// The column asked of a row.
-fn column(out: &mut [u8; 65536], n: usize, a: Asked, row: &[u8]) -> usize {
+// A column. There is room for one number more than it takes.
+fn column(out: &mut [u8; 2097152], n: usize, k: u32, l: Letters, row: &[u8]) -> usize
+    requires { ⌜ n + length (written l (columnOf k (now row))) + 20 ≤ 2097152 ⌝ }
+    ensures { λ r. ⌜ Appended (now (out .entry)) n (written l (columnOf k (now (row .entry)))) r (now (out .exit)) ⌝ }
+{
     let mut at = n;
-    let mut before = a.column;
-    let mut i = 0;
+    let mut i = start(k, row);
     while i < row.len() {
         let byte = row[i];
         if byte == b'|' {
-            if before == 0 {
-                return at;
-            }
-            before -= 1;
-        } else if before == 0 {
-            at = letter(out, at, a, byte);
+            return at;
         }
+        at = letter(out, at, l, byte);
         i += 1;
     }
     at
 }
 
+// ---- an answer in words
+
+const PLAIN: Letters = Letters {
+    answered: false,
+    first: 0,
+    second: 0,
+};
+
+fn has_place(row: u32) -> bool
+    ensures { λ r. ⌜ r ≡ hasPlace row ⌝ }
+{
+    if row == number::PASSED {
+        return false;
+    }
+    if row == number::START_BLOCK {
+        return false;
+    }
+    if row == number::MEMORY_LENGTH {
+        return false;
+    }
+    true
+}
+
+// The place that was answered.
+fn place(out: &mut [u8; 2097152], n: usize, a: Asked, row: &[u8]) -> usize
+    requires { ⌜ Fine (now row) × (n + 14025 ≤ 2097152) ⌝ }
+    ensures { λ r. ⌜ Appended (now (out .entry)) n (placeText (a .number) (a .first) (a .second) (now (row .entry))) r (now (out .exit)) ⌝ }
+{
+    if !has_place(a.number) {
+        return n;
+    }
+    let at = output::text(out, n, b"; at ");
+    let l = Letters {
+        answered: true,
+        first: a.first,
+        second: a.second,
+    };
+    column(out, at, super::PLACE, l, row)
+}
+
+// Name, meaning and place.
+fn answer(out: &mut [u8; 2097152], n: usize, a: Asked, row: &[u8]) -> usize
+    requires { ⌜ Fine (now row) × (n + 16384 ≤ 2097152) ⌝ }
+    ensures { λ r. ⌜ Appended (now (out .entry)) n (answerText (a .number) (a .first) (a .second) (now (row .entry))) r (now (out .exit)) ⌝ }
+{
+    let b = output::text(out, n, b"  # ");
+    let c = column(out, b, super::NAME, PLAIN, row);
+    let d = output::text(out, c, b": ");
+    let e = column(out, d, super::MEANING, PLAIN, row);
+    place(out, e, a, row)
+}
+
+// What is asked of a row.
+fn said(out: &mut [u8; 2097152], n: usize, a: Asked, row: &[u8]) -> usize
+    requires { ⌜ Fine (now row) × (n + 16384 ≤ 2097152) ⌝ }
+    ensures { λ r. ⌜ Told (saidText a) (now (out .entry)) n r (now (out .exit)) ⌝ }
+{
+    if a.whole {
+        return answer(out, n, a, row);
+    }
+    column(out, n, a.column, PLAIN, row)
+}
+
+// ---- the rows
+
 // The length of a table, and field counts.
-pub fn lengths(out: &mut [u8; 65536], n: usize, row: u32, a: Asked) -> usize {
-    if row == number::TABLE_LENGTH {
-        return column(
+pub fn lengths(out: &mut [u8; 2097152], n: usize, a: Asked) -> usize
+    requires { ⌜ n + 16384 ≤ 2097152 ⌝ }
+    ensures { λ r. ⌜ Told (saidText a) (now (out .entry)) n r (now (out .exit)) ⌝ }
+{
+    if a.number == number::TABLE_LENGTH {
+        return said(
             out,
             n,
             a,
@@ -49,8 +154,8 @@ pub fn lengths(out: &mut [u8; 65536], n: usize, row: u32, a: Asked) -> usize {
               table A (0 types, 1 tags, 2 blocks, 3 code)",
         );
     }
-    if row == number::FIELD_COUNT {
-        return column(
+    if a.number == number::FIELD_COUNT {
+        return said(
             out,
             n,
             a,
@@ -61,13 +166,16 @@ pub fn lengths(out: &mut [u8; 65536], n: usize, row: u32, a: Asked) -> usize {
               type row A",
         );
     }
-    n
+    said(out, n, a, b"")
 }
 
 // The type words of records, and tags.
-pub fn types(out: &mut [u8; 65536], n: usize, row: u32, a: Asked) -> usize {
-    if row == number::FIELD_TYPE {
-        return column(
+pub fn types(out: &mut [u8; 2097152], n: usize, a: Asked) -> usize
+    requires { ⌜ n + 16384 ≤ 2097152 ⌝ }
+    ensures { λ r. ⌜ Told (saidText a) (now (out .entry)) n r (now (out .exit)) ⌝ }
+{
+    if a.number == number::FIELD_TYPE {
+        return said(
             out,
             n,
             a,
@@ -80,8 +188,8 @@ pub fn types(out: &mut [u8; 65536], n: usize, row: u32, a: Asked) -> usize {
               type row A",
         );
     }
-    if row == number::TAG {
-        return column(
+    if a.number == number::TAG {
+        return said(
             out,
             n,
             a,
@@ -92,13 +200,16 @@ pub fn types(out: &mut [u8; 65536], n: usize, row: u32, a: Asked) -> usize {
               tag A",
         );
     }
-    n
+    said(out, n, a, b"")
 }
 
 // Blocks: lengths and annotations.
-pub fn blocks(out: &mut [u8; 65536], n: usize, row: u32, a: Asked) -> usize {
-    if row == number::BLOCK_LENGTH {
-        return column(
+pub fn blocks(out: &mut [u8; 2097152], n: usize, a: Asked) -> usize
+    requires { ⌜ n + 16384 ≤ 2097152 ⌝ }
+    ensures { λ r. ⌜ Told (saidText a) (now (out .entry)) n r (now (out .exit)) ⌝ }
+{
+    if a.number == number::BLOCK_LENGTH {
+        return said(
             out,
             n,
             a,
@@ -110,8 +221,8 @@ pub fn blocks(out: &mut [u8; 65536], n: usize, row: u32, a: Asked) -> usize {
               block row A",
         );
     }
-    if row == number::ANNOTATION {
-        return column(
+    if a.number == number::ANNOTATION {
+        return said(
             out,
             n,
             a,
@@ -124,13 +235,16 @@ pub fn blocks(out: &mut [u8; 65536], n: usize, row: u32, a: Asked) -> usize {
               block row A",
         );
     }
-    n
+    said(out, n, a, b"")
 }
 
 // The form of an instruction.
-pub fn forms(out: &mut [u8; 65536], n: usize, row: u32, a: Asked) -> usize {
-    if row == number::INSTRUCTION {
-        return column(
+pub fn forms(out: &mut [u8; 2097152], n: usize, a: Asked) -> usize
+    requires { ⌜ n + 16384 ≤ 2097152 ⌝ }
+    ensures { λ r. ⌜ Told (saidText a) (now (out .entry)) n r (now (out .exit)) ⌝ }
+{
+    if a.number == number::INSTRUCTION {
+        return said(
             out,
             n,
             a,
@@ -142,8 +256,8 @@ pub fn forms(out: &mut [u8; 65536], n: usize, row: u32, a: Asked) -> usize {
               block A, code index B",
         );
     }
-    if row == number::BLOCK_END {
-        return column(
+    if a.number == number::BLOCK_END {
+        return said(
             out,
             n,
             a,
@@ -154,8 +268,8 @@ pub fn forms(out: &mut [u8; 65536], n: usize, row: u32, a: Asked) -> usize {
               block A, code index B",
         );
     }
-    if row == number::TARGET {
-        return column(
+    if a.number == number::TARGET {
+        return said(
             out,
             n,
             a,
@@ -166,25 +280,29 @@ pub fn forms(out: &mut [u8; 65536], n: usize, row: u32, a: Asked) -> usize {
               block A, code index B",
         );
     }
-    n
+    said(out, n, a, b"")
 }
 
 // Loads and stores.
-pub fn accesses(out: &mut [u8; 65536], n: usize, row: u32, a: Asked) -> usize {
-    if row == number::REFERENCE {
-        return column(
+pub fn accesses(out: &mut [u8; 2097152], n: usize, a: Asked) -> usize
+    requires { ⌜ n + 16384 ≤ 2097152 ⌝ }
+    ensures { λ r. ⌜ Told (saidText a) (now (out .entry)) n r (now (out .exit)) ⌝ }
+{
+    if a.number == number::REFERENCE {
+        return said(
             out,
             n,
             a,
             b"reference|\
               the base of a load or store is not known to be a reference|\
-              a pointer that was not tested for 0, or whose tag was not tested|\
-              test it by opcode 11, and declare what the test shows in the annotation of the block that follows|\
+              a pointer that was not tested for 0, whose tag was not tested, or that may stand before or at the end of its run|\
+              test Maybe and Tagged by opcode 11, Run and From by opcode 12, and declare what the test shows in the annotation of \
+              the block that follows|\
               block A, code index B",
         );
     }
-    if row == number::OFFSET {
-        return column(
+    if a.number == number::OFFSET {
+        return said(
             out,
             n,
             a,
@@ -195,8 +313,8 @@ pub fn accesses(out: &mut [u8; 65536], n: usize, row: u32, a: Asked) -> usize {
               block A, code index B",
         );
     }
-    if row == number::OTHER_RECORD {
-        return column(
+    if a.number == number::OTHER_RECORD {
+        return said(
             out,
             n,
             a,
@@ -207,25 +325,28 @@ pub fn accesses(out: &mut [u8; 65536], n: usize, row: u32, a: Asked) -> usize {
               block A, code index B",
         );
     }
-    n
+    said(out, n, a, b"")
 }
 
 // The end of a block.
-pub fn ends(out: &mut [u8; 65536], n: usize, row: u32, a: Asked) -> usize {
-    if row == number::OPEN_RECORD {
-        return column(
+pub fn ends(out: &mut [u8; 2097152], n: usize, a: Asked) -> usize
+    requires { ⌜ n + 16384 ≤ 2097152 ⌝ }
+    ensures { λ r. ⌜ Told (saidText a) (now (out .entry)) n r (now (out .exit)) ⌝ }
+{
+    if a.number == number::OPEN_RECORD {
+        return said(
             out,
             n,
             a,
             b"open record|\
               a record is half written at a block's end|\
-              a plot's stage set in one block, its pointer in the next|\
-              make all stores of one change in one block|\
+              a plot's stage set in one block, its pointer in the next; or a stored word that is not known to fit its field|\
+              make all stores of one change in one block, and store what its type shows to fit|\
               block A, code index B",
         );
     }
-    if row == number::TAKEN_EDGE {
-        return column(
+    if a.number == number::TAKEN_EDGE {
+        return said(
             out,
             n,
             a,
@@ -236,8 +357,8 @@ pub fn ends(out: &mut [u8; 65536], n: usize, row: u32, a: Asked) -> usize {
               block A, code index B",
         );
     }
-    if row == number::UNTAKEN_EDGE {
-        return column(
+    if a.number == number::UNTAKEN_EDGE {
+        return said(
             out,
             n,
             a,
@@ -248,13 +369,16 @@ pub fn ends(out: &mut [u8; 65536], n: usize, row: u32, a: Asked) -> usize {
               block A, code index B",
         );
     }
-    n
+    said(out, n, a, b"")
 }
 
 // Where a run starts, what it may reach.
-pub fn runs(out: &mut [u8; 65536], n: usize, row: u32, a: Asked) -> usize {
-    if row == number::START_BLOCK {
-        return column(
+pub fn runs(out: &mut [u8; 2097152], n: usize, a: Asked) -> usize
+    requires { ⌜ n + 16384 ≤ 2097152 ⌝ }
+    ensures { λ r. ⌜ Told (saidText a) (now (out .entry)) n r (now (out .exit)) ⌝ }
+{
+    if a.number == number::START_BLOCK {
+        return said(
             out,
             n,
             a,
@@ -265,8 +389,8 @@ pub fn runs(out: &mut [u8; 65536], n: usize, row: u32, a: Asked) -> usize {
               0, 0",
         );
     }
-    if row == number::MEMORY_LENGTH {
-        return column(
+    if a.number == number::MEMORY_LENGTH {
+        return said(
             out,
             n,
             a,
@@ -277,8 +401,8 @@ pub fn runs(out: &mut [u8; 65536], n: usize, row: u32, a: Asked) -> usize {
               0, 0",
         );
     }
-    if row == number::ADDRESS {
-        return column(
+    if a.number == number::ADDRESS {
+        return said(
             out,
             n,
             a,
@@ -289,13 +413,16 @@ pub fn runs(out: &mut [u8; 65536], n: usize, row: u32, a: Asked) -> usize {
               block A, code index B",
         );
     }
-    n
+    said(out, n, a, b"")
 }
 
 // Allocations, and the fields of records.
-pub fn records(out: &mut [u8; 65536], n: usize, row: u32, a: Asked) -> usize {
-    if row == number::ALLOCATION {
-        return column(
+pub fn records(out: &mut [u8; 2097152], n: usize, a: Asked) -> usize
+    requires { ⌜ n + 16384 ≤ 2097152 ⌝ }
+    ensures { λ r. ⌜ Told (saidText a) (now (out .entry)) n r (now (out .exit)) ⌝ }
+{
+    if a.number == number::ALLOCATION {
+        return said(
             out,
             n,
             a,
@@ -307,8 +434,8 @@ pub fn records(out: &mut [u8; 65536], n: usize, row: u32, a: Asked) -> usize {
               allocation row A",
         );
     }
-    if row == number::FIELD {
-        return column(
+    if a.number == number::FIELD {
+        return said(
             out,
             n,
             a,
@@ -319,13 +446,16 @@ pub fn records(out: &mut [u8; 65536], n: usize, row: u32, a: Asked) -> usize {
               allocation row A, field B",
         );
     }
-    n
+    said(out, n, a, b"")
 }
 
 // Registers; the code index.
-pub fn registers(out: &mut [u8; 65536], n: usize, row: u32, a: Asked) -> usize {
-    if row == number::REGISTER {
-        return column(
+pub fn registers(out: &mut [u8; 2097152], n: usize, a: Asked) -> usize
+    requires { ⌜ n + 16384 ≤ 2097152 ⌝ }
+    ensures { λ r. ⌜ Told (saidText a) (now (out .entry)) n r (now (out .exit)) ⌝ }
+{
+    if a.number == number::REGISTER {
+        return said(
             out,
             n,
             a,
@@ -336,8 +466,8 @@ pub fn registers(out: &mut [u8; 65536], n: usize, row: u32, a: Asked) -> usize {
               register A",
         );
     }
-    if row == number::CODE_INDEX {
-        return column(
+    if a.number == number::CODE_INDEX {
+        return said(
             out,
             n,
             a,
@@ -348,13 +478,16 @@ pub fn registers(out: &mut [u8; 65536], n: usize, row: u32, a: Asked) -> usize {
               block A, code index B",
         );
     }
-    n
+    said(out, n, a, b"")
 }
 
 // Where no question has a no.
-pub fn outcomes(out: &mut [u8; 65536], n: usize, row: u32, a: Asked) -> usize {
-    if row == number::PASSED {
-        return column(
+pub fn outcomes(out: &mut [u8; 2097152], n: usize, a: Asked) -> usize
+    requires { ⌜ n + 16384 ≤ 2097152 ⌝ }
+    ensures { λ r. ⌜ Told (saidText a) (now (out .entry)) n r (now (out .exit)) ⌝ }
+{
+    if a.number == number::PASSED {
+        return said(
             out,
             n,
             a,
@@ -365,8 +498,8 @@ pub fn outcomes(out: &mut [u8; 65536], n: usize, row: u32, a: Asked) -> usize {
               0, 0",
         );
     }
-    if row == number::PAUSED {
-        return column(
+    if a.number == number::PAUSED {
+        return said(
             out,
             n,
             a,
@@ -377,13 +510,16 @@ pub fn outcomes(out: &mut [u8; 65536], n: usize, row: u32, a: Asked) -> usize {
               block A, code index B",
         );
     }
-    n
+    said(out, n, a, b"")
 }
 
 // A run that halted, and a line that is no request.
-pub fn others(out: &mut [u8; 65536], n: usize, row: u32, a: Asked) -> usize {
-    if row == super::HALTED {
-        return column(
+pub fn others(out: &mut [u8; 2097152], n: usize, a: Asked) -> usize
+    requires { ⌜ n + 16384 ≤ 2097152 ⌝ }
+    ensures { λ r. ⌜ Told (saidText a) (now (out .entry)) n r (now (out .exit)) ⌝ }
+{
+    if a.number == super::HALTED {
+        return said(
             out,
             n,
             a,
@@ -394,18 +530,18 @@ pub fn others(out: &mut [u8; 65536], n: usize, row: u32, a: Asked) -> usize {
               block A, code index B",
         );
     }
-    if row == super::MALFORMED {
-        return column(
+    if a.number == super::MALFORMED {
+        return said(
             out,
             n,
             a,
             b"no request|\
               the line is none of the four requests: another first word, a number that is too large or no number, numbers missing \
-              or left over, or tables of more than 40,960 words together|\
+              or left over, or tables of more than 135,168 words together|\
               a count that differs from the number of words after it|\
               mend the line at this byte; the lines after it are answered all the same|\
               byte A of the line, counted from 0",
         );
     }
-    n
+    said(out, n, a, b"")
 }

@@ -1,20 +1,9 @@
-//! Answers requests of the line protocol on standard input, for comparison with the proved program.
+//! Answers requests of the line protocol on standard input, for comparison with the proved program: `protocol [--lines]`.
 
-use ramdulsi_reference::protocol::{answer, read};
-use ramdulsi_reference::Plain;
-use std::io::{self, BufRead, Write};
+use ramdulsi_reference::protocol::serve;
+use std::io::{self, BufReader, BufWriter};
 
 fn main() -> io::Result<()> {
-    let mut out = io::BufWriter::new(io::stdout().lock());
-    for line in io::stdin().lock().lines() {
-        let line = line?;
-        if line.trim().is_empty() || line.starts_with('#') {
-            continue;
-        }
-        match read(&line) {
-            Some((request, case)) => writeln!(out, "{}", answer::<Plain>(request, &case))?,
-            None => writeln!(out, "malformed")?,
-        }
-    }
-    out.flush()
+    let numbered = std::env::args().any(|word| word == "--lines");
+    serve(BufReader::with_capacity(1 << 16, io::stdin()), BufWriter::with_capacity(1 << 16, io::stdout()), numbered)
 }

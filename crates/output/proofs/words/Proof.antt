@@ -1,31 +1,34 @@
--- `words` is safe and ends: fewer words are left after each turn.
-use Prim.Native.Nat.{_-_}
+-- `words` appends the fields of a list: after each turn those of the words read so far.
+use mathlib.Core.Path.{_≡_}
+use Prim.Native.Nat.{_+_, _*_, _-_, _≤_}
 use native.Mathlib.Omega.{arith}
-use borrow.Author.Needs.{needs}
-use lib.ListN.{length}
+use lib.ListN.{length, take}
+use Rattle.protocol.specs.Text.{fields}
+use Rattle.output.specs.Appended.{Appended}
+use Rattle.output.proofs.Appending.{nothing}
+use Rattle.output.proofs.Fields.{next-field, all-fields}
 use Rattle.output.proofs.words.Statement.{statement}
 use Rattle.output.proofs.words.Tie as tie
 
 abbrev Inv-loop : tie.InvT-loop
-Inv-loop out₀ n list at₀ i₀ out at i = Unit {0}
+Inv-loop out₀ n list at₀ i₀ out at i =
+    (i ≤ length list) × (at ≤ n + 11 * i) × Appended out₀ n (fields (take i list)) at out
 
 abbrev μ-loop : tie.MeasureT-loop
 μ-loop out₀ n list at₀ i₀ out at i = length list - i
 
 loop-holds : tie.Need-loop-holds Inv-loop μ-loop
-loop-holds c = tt
+unfolding fields
+loop-holds c = (omega arith, omega arith, nothing (c .before .args .out .now) (c .before .args .n))
 
-mul-wide : tie.Need-mul-wide Inv-loop μ-loop
-mul-wide c = omega arith
+mul-word : tie.Need-mul-word Inv-loop μ-loop
+mul-word c = omega arith
 
-shared-slice-read-wide : tie.Need-shared-slice-read-wide Inv-loop μ-loop
-shared-slice-read-wide c = omega arith
+shared-slice-read-word : tie.Need-shared-slice-read-word Inv-loop μ-loop
+shared-slice-read-word c = omega arith
 
-wide-requires : tie.Need-wide-requires Inv-loop μ-loop
-wide-requires c κs = search needs
-
-field-requires : tie.Need-field-requires Inv-loop μ-loop
-field-requires c κs = search needs
+word-requires : tie.Need-word-requires Inv-loop μ-loop
+word-requires c κs = omega arith
 
 add-i : tie.Need-add-i Inv-loop μ-loop
 add-i c = omega arith
@@ -34,10 +37,17 @@ loop-less : tie.Need-loop-less Inv-loop μ-loop
 loop-less c = omega arith
 
 loop-again : tie.Need-loop-again Inv-loop μ-loop
-loop-again c = tt
+loop-again c =
+    let turn = c .before .before .before .before in (
+      omega arith,
+      omega arith,
+      next-field (turn .before .before .args .list .now) (turn .loop .i) (omega arith) (turn .loop .inv .2) (c .word .ensures .0),
+    )
 
 returns : tie.Need-returns Inv-loop μ-loop
-returns c = search needs
+returns c =
+    let end = c .before in
+    (all-fields (end .before .before .args .list .now) (end .loop .i) (omega arith) (end .loop .inv .2), omega arith)
 
 pub words-spec : {M : Type 1} → statement M
 words-spec =
@@ -46,10 +56,9 @@ words-spec =
     Inv-loop
     μ-loop
     loop-holds
-    mul-wide
-    shared-slice-read-wide
-    wide-requires
-    field-requires
+    mul-word
+    shared-slice-read-word
+    word-requires
     add-i
     loop-less
     loop-again

@@ -1,0 +1,2 @@
+-- Laws of the crate: texts that are the same, and options one after the other.
+pub mod Asking
