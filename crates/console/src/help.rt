@@ -39,8 +39,8 @@ pub fn help() -> bool {
           \x20 run    BLOCKS CODE MEMORY BLOCK R0 .. R7 BUDGET                  NUMBER A B FINISHED R0 .. R7 COUNT WORDS..\n\
           \n\
           A table is its word count and its words. A number is decimal, or 0x and hexadecimal digits; it is below\n\
-          2^32, a BUDGET below 2^64. The tables and numbers of a line may have 135,168 words together. Blanks,\n\
-          tabs and carriage returns separate; empty lines and lines that begin with # are passed over.\n\
+          2^32, a BUDGET below 2^64. A line may have 135,168 words: those of its tables, BLOCK and R0 .. R7.\n\
+          Spaces, tabs and carriage returns separate; empty lines and lines that begin with # are passed over.\n\
           \n\
           NUMBER is 0 for passed or halted, 40 for paused, else that of the first question with a no, and A B is\n\
           its place. After a run: the blocks finished, the registers, the memory. A line of another form is\n\

@@ -6,12 +6,9 @@ use native.Mathlib.Nat.{div-lt-iff-lt-mul, le-mul-of-pos-right, mul-le-mul}
 use native.Mathlib.Omega.{arith}
 use lib.Dec.{ltb, eqb}
 use borrow.Author.Tests.{ltb-true, ltb-false, lt-ltb, le-ltb, ne-eqb, eqb-true, eqb-false}
+use Rattle.model.proofs.Logic.{byTest}
 use Rattle.protocol.specs.Grammar.{wordEnd}
 use Rattle.protocol.specs.Phase.{GAP, ZERO, DIGITS, PREFIX, HEX, COMMENT, ex, blank, numeral, base, digitTo}
-
-pub byTest {ℓ} : {P : Type ℓ} (b : Bool) → (b ≡ true → P) → (b ≡ false → P) → P
-byTest true f g = f refl
-byTest false f g = g refl
 
 -- ---- blanks
 

@@ -16,7 +16,7 @@ use Rattle.protocol.specs.Reader.{Reader, reader, onLine, freshLine, pas
 use Rattle.protocol.specs.Reader.{digitRead, numberRead, after, finished, wordTaken, countTaken, longTaken, taken, lettersEnd}
 use Rattle.protocol.specs.Reader.{nameRead, firstRead, blankRead, act, step, reads, settled, atEnd}
 use Rattle.protocol.specs.Said.{slice, cuts, partsOf, said, start, lineSays, PoolsForgotten}
-use Rattle.protocol.proofs.Bytes.{byTest}
+use Rattle.model.proofs.Logic.{byTest}
 
 -- ---- lists
 

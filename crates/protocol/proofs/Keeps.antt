@@ -13,7 +13,7 @@ use Rattle.protocol.specs.Reader.{digitRead, numberRead, after, finished
 use Rattle.protocol.specs.Reader.{nameRead, firstRead, blankRead, act, step, Fine}
 use Rattle.protocol.specs.Scan.{inside, ended}
 use Rattle.protocol.specs.Ahead.{goneTo}
-use Rattle.protocol.proofs.Bytes.{byTest}
+use Rattle.model.proofs.Logic.{byTest}
 use Rattle.protocol.proofs.Steps.{bound-done, part-past, given-inside}
 
 -- where a number fits, the row is not at its end

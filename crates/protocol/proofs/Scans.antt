@@ -16,7 +16,8 @@ use Rattle.protocol.specs.Phase.{EMPTY, NAME, GAP, ZERO, DIGITS, PREFIX,
 use Rattle.protocol.specs.Reader.{Reader, reader, past, lineOf, shifted, malformed, boundOf, digitRead, numberRead}
 use Rattle.protocol.specs.Reader.{after, finished, wordTaken, countTaken, longTaken, taken, blankRead, act, step, reads}
 use Rattle.protocol.specs.Scan.{Scan, scanned, notFound, scan, scanDecimal, scanHex, scanNumber, inside, ended}
-use Rattle.protocol.proofs.Bytes.{byTest, digit-no-blank, digit-no-ex, base-ten, base-most, base-some, On, to-on, to-decimal, digit-grows}
+use Rattle.model.proofs.Logic.{byTest}
+use Rattle.protocol.proofs.Bytes.{digit-no-blank, digit-no-ex, base-ten, base-most, base-some, to-on, to-decimal, digit-grows}
 
 -- ---- the fold
 
@@ -54,7 +55,7 @@ pub scan-end : (radix o : ℕ) (bytes : List ℕ) (i v k : ℕ) → length bytes
 unfolding scan
 scan-end radix o bytes i v k h = rw (drop-of-length-le bytes h)
 
--- where there is no decimal number
+-- a decimal number was looked for at a place: where there is none, a hexadecimal one is
 module _ (bytes : List ℕ) (at k w : ℕ) (e : scanned k w ≡ scan 10 (at - at) 0 (at - at) (drop at bytes)) where
   first : scanned k w ≡ scanDecimal (drop at bytes)
   first = rw sub-self at e

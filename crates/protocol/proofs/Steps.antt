@@ -14,7 +14,7 @@ use Rattle.protocol.specs.Phase.{EMPTY, NAME, GAP, ZERO, PREFIX, COMMENT
 use Rattle.protocol.specs.Reader.{Reader, reader, onLine, past, lineOf, placed, shifted, malformed, kind, bound, boundOf, wanted}
 use Rattle.protocol.specs.Reader.{digitRead, numberRead, after, finished, wordTaken, countTaken, longTaken, taken, lettersEnd, firstPart}
 use Rattle.protocol.specs.Reader.{nameRead, firstRead, blankRead, act, step, settled, atEnd}
-use Rattle.protocol.proofs.Bytes.{byTest}
+use Rattle.model.proofs.Logic.{byTest}
 
 -- ---- what may stand here
 

@@ -18,7 +18,7 @@ use Rattle.protocol.specs.Reader.{Reader, reader, onLine, freshLine, lin
 use Rattle.protocol.specs.Reader.{digitRead, numberRead, after, finished, wordTaken, countTaken, longTaken, taken}
 use Rattle.protocol.specs.Reader.{nameRead, firstRead, blankRead, act, step, reads, settled, atEnd, Fine}
 use Rattle.protocol.specs.Said.{InOrder, Whole, RequestsWhole}
-use Rattle.protocol.proofs.Bytes.{byTest}
+use Rattle.model.proofs.Logic.{byTest}
 use Rattle.protocol.proofs.Steps.{wanted-word, wanted-count, wanted-other, bound-none}
 use Rattle.protocol.proofs.Keeps.{fine-fresh, fine-act, fine-step}
 

@@ -16,7 +16,7 @@ use Rattle.protocol.specs.Phase.{GAP, DIGITS, COMMENT, nought, ex, blank
 use Rattle.protocol.specs.Reader.{Reader, reader, past, lineOf, shifted, kind, boundOf, step, reads, Fine}
 use Rattle.protocol.specs.Scan.{Scan, scanned, scan, scanDecimal, scanHex, scanNumber, inside, ended}
 use Rattle.protocol.specs.Ahead.{Goes, goneTo, inWords}
-use Rattle.protocol.proofs.Bytes.{byTest}
+use Rattle.model.proofs.Logic.{byTest}
 use Rattle.protocol.proofs.Scans.{none-found, scan-reads}
 use Rattle.protocol.proofs.Steps.{bound-word, word-on, taken-word, act-past}
 use Rattle.protocol.proofs.Keeps.{fine-at, fine-gone}

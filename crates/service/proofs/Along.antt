@@ -1,13 +1,13 @@
 -- Laws of the bytes of a line, and of what is served to them.
 use mathlib.Core.Path.{_≡_, refl, sym, ap, subst, _∙_}
-use mathlib.Core.Bool.{Bool, true, false}
+use mathlib.Core.Bool.{Bool, true}
 use mathlib.Core.List.{List, [], _∷_, _++_, append-assoc, append-nil}
-use Prim.Native.Nat.{ℕ, zero, suc, _+_, _-_, _<_, _≤_}
+use Prim.Native.Nat.{ℕ, suc, _+_, _-_, _<_, _≤_}
 use native.Mathlib.Omega.{arith}
 use native.Mathlib.Nat.{not-suc-le-zero, le-of-suc-le-suc}
 use borrow.Author.Tests.{eq-eqb, ne-eqb, eqb-true}
 use lib.Dec.{eqb}
-use lib.ListN.{length, getD, take, drop, length-drop}
+use lib.ListN.{length, getD, take, drop, length-drop, drop-of-length-le}
 use lib.Seq.{drop-cons, drop-drop, getD-drop}
 use Rattle.model.specs.Question.{pick}
 use Rattle.model.proofs.Logic.{byTest, pick-true, pick-false}
@@ -18,12 +18,11 @@ use Rattle.protocol.specs.Said.{said}
 use Rattle.service.specs.declared.Place.{Place}
 use Rattle.service.specs.declared.Reply.{Reply}
 use Rattle.service.specs.declared.Style.{Style}
-use Rattle.service.specs.Answers.{refused, lineText}
+use Rattle.service.specs.Answers.{refused, lineText, remarkText}
 use Rattle.service.specs.Gives.{Replied}
 use Rattle.service.specs.Filling.{standingAt, placed, Ready, Answered, Same, Finished}
 use Rattle.service.specs.Served.{newline, spoken, toEnd, Standing, standing, further, nextLine, lineAnswer, alongBy}
 use Rattle.service.specs.Served.{served, stood, lastAnswer, lastRefused}
-use Rattle.service.proofs.Cut.{drop-past}
 
 -- ---- where a line ends
 
@@ -41,7 +40,7 @@ module _ (xs : List ℕ) (i : ℕ) where
 
   pub end-none : length xs ≤ i → toEnd (drop i xs) ≡ 0
   unfolding toEnd
-  end-none h = ap toEnd (drop-past xs i h)
+  end-none h = ap toEnd (drop-of-length-le xs h)
 
 -- ---- a line at its end
 
@@ -62,6 +61,7 @@ module _ (s : Style) (l m : Line) (w e n w′ e′ n′ : List ℕ) (count held 
         remark = y .remark;
         seen = y .seen;
         plain = y .plain;
+        told = λ p. let (row, e) = y .told p in (row, e ∙ ap (λ x. remarkText x row) same);
         text = rw (sym same, z) (y .text);
         next = rw z (next-standing (ap (λ (r : Reader). onLine r freshLine) x) (y .refusal ∙ ap refused same));
         room = rw z (y .room);

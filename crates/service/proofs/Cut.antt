@@ -1,26 +1,15 @@
 -- Laws of the parts that are cut from the pool of words.
 use mathlib.Core.Path.{_≡_, refl, sym, ap, subst, _∙_}
 use mathlib.Core.List.{List, [], _∷_}
-use Prim.Native.Nat.{ℕ, zero, suc, _-_, _≤_, _<_, min}
+use Prim.Native.Nat.{ℕ, zero, suc, _-_, _≤_, min}
 use native.Mathlib.Omega.{arith}
-use native.Mathlib.Nat.{not-suc-le-zero, le-of-suc-le-suc, zero-sub, sub-eq-zero-of-le}
-use lib.ListN.{length, getD, take, drop, length-drop, length-take}
-use lib.Seq.{take-all, take-nil, getD-take}
+use native.Mathlib.Nat.{not-suc-le-zero, le-of-suc-le-suc, sub-eq-zero-of-le}
+use lib.ListN.{length, getD, take, drop, length-drop, length-take, drop-of-length-le}
+use lib.Seq.{take-all, take-nil}
 use Rattle.protocol.specs.Said.{slice, cuts, partsIn}
 use Rattle.service.specs.Answers.{part}
 
 -- ---- past the end
-
-pub getD-past : {A : Type 0} (xs : List A) (i : ℕ) (d : A) → length xs ≤ i → d ≡ getD xs i d
-getD-past [] i d h = refl
-getD-past (x ∷ xs) zero d h = absurd (not-suc-le-zero h)
-getD-past (x ∷ xs) (suc i) d h = getD-past xs i d (le-of-suc-le-suc h)
-
-pub drop-past : (xs : List ℕ) (n : ℕ) → length xs ≤ n → drop n xs ≡ []
-drop-past [] zero h = refl
-drop-past [] (suc n) h = refl
-drop-past (x ∷ xs) zero h = absurd (not-suc-le-zero h)
-drop-past (x ∷ xs) (suc n) h = drop-past xs n (le-of-suc-le-suc h)
 
 -- a place that is not among the first m
 pub past-taken : (m : ℕ) (xs : List ℕ) (i : ℕ) → m ≤ i → 0 ≡ getD (take m xs) i 0
@@ -41,7 +30,7 @@ pub slice-empty : (from to : ℕ) (xs : List ℕ) → to ≤ from → [] ≡ sli
 slice-empty from to xs h = sym (ap (λ (k : ℕ). take k (drop from xs)) (sub-eq-zero-of-le h))
 
 pub slice-beyond : (from to : ℕ) (xs : List ℕ) → length xs ≤ from → [] ≡ slice from to xs
-slice-beyond from to xs h = sym (ap (take (to - from)) (drop-past xs from h) ∙ take-nil (to - from))
+slice-beyond from to xs h = sym (ap (take (to - from)) (drop-of-length-le xs h) ∙ take-nil (to - from))
 
 pub slice-tail : (from to : ℕ) (xs : List ℕ) → length xs ≤ to → take (length xs - from) (drop from xs) ≡ slice from to xs
 slice-tail from to xs h =

@@ -9,7 +9,7 @@ use lib.Seq.{take-suc, drop-cons, set-at, length-take-le, take-length, drop-leng
 use Rattle.model.specs.declared.Verdict.{Verdict}
 use Rattle.model.specs.declared.RunAnswer.{RunAnswer}
 use Rattle.model.specs.Table.{codeOf}
-use Rattle.model.specs.Machine.{ready, Run, run, returned}
+use Rattle.model.specs.Machine.{ready, run, returned}
 use Rattle.model.proofs.Logic.{pick-true, pick-false}
 use Rattle.model.specs.Check.{check}
 use Rattle.model.specs.MemoryCheck.{memoryCheck, entryCheck}

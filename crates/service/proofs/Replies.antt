@@ -1,26 +1,27 @@
 -- Laws of a line of output: its number, its answer, what is added in words.
 use mathlib.Core.Path.{_≡_, refl, sym, ap, subst, _∙_}
 use mathlib.Core.Bool.{Bool, true, false, not, false≢true}
-use mathlib.Core.List.{List, [], _∷_, _++_}
+use mathlib.Core.List.{List, [], _∷_}
 use Prim.Native.Nat.{ℕ, _+_, _≤_}
 use native.Mathlib.Omega.{arith}
 use lib.Dec.{eqb}
-use lib.ListN.{length, take}
+use lib.ListN.{take}
 use borrow.Author.Tests.{not-true, not-false, eqb-true, eqb-false, eq-eqb, ne-eqb}
 use Rattle.model.proofs.Logic.{byEqual, pick-true, pick-false}
 use Rattle.protocol.specs.Text.{decimal}
 use Rattle.output.specs.Appended.{Appended}
-use Rattle.output.specs.Digits.{printable, allFrom}
+use Rattle.output.specs.Digits.{allFrom}
 use Rattle.output.proofs.Appending.{nothing, after, same-text}
 use Rattle.protocol.specs.declared.Line.{Line}
 use Rattle.protocol.specs.Phase.{GAP, MALFORMED}
 use Rattle.protocol.specs.Reader.{Reader, reader}
 use Rattle.protocol.specs.Said.{Said, nothing as silence, malformedAt, request, said, partsIn}
+use Rattle.words.specs.Row.{answerText}
 use Rattle.words.specs.Told.{Told}
 use Rattle.service.specs.declared.Given.{Given}
 use Rattle.service.specs.declared.Style.{Style}
 use Rattle.service.specs.declared.Reply.{Reply}
-use Rattle.service.specs.Answers.{Answer, lineNumber, outputLine, lineText, refusalRow, refused, haltedRow, unread, requestAnswer}
+use Rattle.service.specs.Answers.{Answer, wordsOf, remarkText, lineNumber, outputLine, lineText, refusalRow, refused, haltedRow, unread, requestAnswer}
 use Rattle.service.specs.Gives.{Gives, speaks, answerAt, Remarked, Ended, Replied}
 
 -- ---- the number of a line
@@ -79,6 +80,18 @@ module _ (l : Line) (w e n : List ℕ) where
   unfolding refused
   spoken-refusal = spoken (λ x a. refusalRow (a .row) ≡ refused x) (λ k. refl) (λ f p q. refl)
 
+  spoken-words : (row : List ℕ) → speaks (l .phase) ≡ true → wordsOf (answerAt l w e n) row ≡ remarkText (said r) row
+  unfolding remarkText
+  spoken-words row = spoken (λ x a. wordsOf a row ≡ remarkText x row) (λ k. refl) (λ f p q. refl)
+
+  told-of : {b c : List ℕ} {m : ℕ} (g : Given) (row : List ℕ) → Gives b m (answerAt l w e n) g c
+      → answerText (g .row) (g .first) (g .second) row ≡ wordsOf (answerAt l w e n) row
+  told-of g row y =
+      let a = answerAt l w e n in
+      ap (λ k. answerText k (g .first) (g .second) row) (y .row)
+      ∙ ap (λ k. answerText (a .row) k (g .second) row) (y .first)
+      ∙ ap (λ k. answerText (a .row) (a .first) k row) (y .second)
+
   silent : speaks (l .phase) ≡ false → said r ≡ silence
   silent h =
       byEqual
@@ -91,12 +104,13 @@ module _ (l : Line) (w e n : List ℕ) where
 
   pub no-reply : (s : Style) (count : ℕ) (out : List ℕ) (k : ℕ) → speaks (l .phase) ≡ false
       → Replied s count (said r) out k (record { held = k; refused = false }) out
-  unfolding lineText refused allFrom
+  unfolding lineText remarkText refused allFrom
   no-reply s count out k h =
       record {
         remark = [];
         seen = refl;
         plain = λ p. refl;
+        told = λ p. ([], sym (ap (λ x. remarkText x []) (silent h)));
         text = same-text (sym (ap (λ x. lineText (s .lined) count x []) (silent h))) (nothing out k);
         refusal = sym (ap refused (silent h));
         room = omega arith;
@@ -110,6 +124,7 @@ module _ (l : Line) (w e n : List ℕ) where
         remark = z .remark;
         seen = z .seen;
         plain = z .plain;
+        told = λ p. let (row, same) = z .told p in (row, same ∙ told-of g row y ∙ spoken-words row h);
         text = same-text (spoken-text (s .lined) count (z .remark) h) (after x (after (y .text) (z .text)));
         refusal = z .refusal ∙ ap refusalRow (y .row) ∙ spoken-refusal h;
         room = omega (arith, small, y .room, z .room);
@@ -117,28 +132,38 @@ module _ (l : Line) (w e n : List ℕ) where
 
 -- ---- words, and the line's end
 
-pub unremarked : (worded : Bool) (out : List ℕ) (n : ℕ) → Remarked worded out n n out
+pub unremarked : (worded : Bool) (g : Given) (out : List ℕ) → not worded ≡ true → Remarked worded g out (g .held) out
 unfolding allFrom
-unremarked worded out n = record { remark = []; seen = refl; plain = λ p. refl; appended = nothing out n; room = omega arith }
-
-pub remarked : (worded : Bool) (f : List ℕ → List ℕ) (before : List ℕ) (n r : ℕ) (after : List ℕ) → not worded ≡ false → Told f before n r after
-    → Remarked worded before n r after
-remarked worded f before n r after h x =
+unremarked worded g out h =
     record {
-      remark = f (x .row);
+      remark = [];
+      seen = refl;
+      plain = λ p. refl;
+      told = λ p. absurd (false≢true (sym (not-true worded h) ∙ p));
+      appended = nothing out (g .held);
+      room = omega arith;
+    }
+
+pub remarked : (worded : Bool) (g : Given) (before : List ℕ) (m : ℕ) (left : List ℕ) → not worded ≡ false
+    → Told (answerText (g .row) (g .first) (g .second)) before (g .held) m left → Remarked worded g before m left
+remarked worded g before m left h x =
+    record {
+      remark = answerText (g .row) (g .first) (g .second) (x .row);
       seen = x .seen;
       plain = λ p. absurd (false≢true (sym p ∙ not-false worded h));
+      told = λ p. (x .row, refl);
       appended = x .appended;
       room = omega (arith, x .short, x .appended .end);
     }
 
-pub line-ended : (worded : Bool) (g : Given) (a b c : List ℕ) (m : ℕ) (reply : Reply) → Remarked worded a (g .held) m b
+pub line-ended : (worded : Bool) (g : Given) (a b c : List ℕ) (m : ℕ) (reply : Reply) → Remarked worded g a m b
     → Appended b m (10 ∷ []) (reply .held) c → reply .refused ≡ refusalRow (g .row) → Ended worded g a reply c
 line-ended worded g a b c m reply x y e =
     record {
       remark = x .remark;
       seen = x .seen;
       plain = x .plain;
+      told = x .told;
       text = after (x .appended) y;
       refusal = e;
       room = omega (arith, x .room, y .end);

@@ -1,5 +1,5 @@
 -- The answer to what a line says: the call that a request asks for, at the request's tables, as text.
-use mathlib.Core.Bool.{Bool, true, false, not}
+use mathlib.Core.Bool.{Bool, false, not}
 use mathlib.Core.Path.{_≡_}
 use mathlib.Core.List.{List, [], _∷_, _++_}
 use Prim.Native.Nat.{ℕ}
@@ -8,11 +8,12 @@ use lib.ListN.{getD}
 use Rattle.model.specs.declared.Verdict.{Verdict}
 use Rattle.model.specs.declared.RunAnswer.{RunAnswer}
 use Rattle.model.specs.Question.{pick}
-use Rattle.model.specs.Table.{Code, codeOf}
+use Rattle.model.specs.Table.{codeOf}
 use Rattle.model.specs.Machine.{Ready, ready, Run, run, returned}
 use Rattle.model.specs.Check.{check}
 use Rattle.model.specs.MemoryCheck.{memoryCheck, entryCheck}
 use Rattle.protocol.specs.Text.{decimal, verdictText, runText, malformedText}
+use Rattle.words.specs.Row.{answerText}
 use Rattle.protocol.specs.Said.{Said, nothing, malformedAt, request}
 
 -- ---- answers
@@ -114,6 +115,15 @@ unfoldable pub lineText : Bool → ℕ → Said → List ℕ → List ℕ
 lineText lined count nothing remark = []
 lineText lined count (malformedAt place) remark = outputLine lined count (unread place) remark
 lineText lined count (request form parts longs) remark = outputLine lined count (requestAnswer form parts longs) remark
+
+-- what is added in words, over the row of the table that the answer has
+abbrev pub wordsOf : Answer → List ℕ → List ℕ
+wordsOf a row = answerText (a .row) (a .first) (a .second) row
+
+unfoldable pub remarkText : Said → List ℕ → List ℕ
+remarkText nothing row = []
+remarkText (malformedAt place) row = wordsOf (unread place) row
+remarkText (request form parts longs) row = wordsOf (requestAnswer form parts longs) row
 
 -- an answer other than 0 and 40, by its row
 unfoldable pub refusalRow : ℕ → Bool

@@ -13,7 +13,7 @@ use Rattle.protocol.specs.Reader.{reader, Fine}
 use Rattle.service.specs.declared.Style.{Style}
 use Rattle.service.specs.declared.Place.{Place}
 use Rattle.service.specs.declared.Filled.{Filled}
-use Rattle.service.specs.Answers.{lineText}
+use Rattle.service.specs.Answers.{lineText, remarkText}
 use Rattle.service.specs.Served.{Standing, standing, spoken, nextLine, served, stood, lastAnswer, lastRefused}
 
 abbrev pub placed : Line → ℕ → Bool → ℕ → Place
@@ -33,6 +33,7 @@ pub record Answered (s : Style) (t : Standing) (n : ℕ) (before : List ℕ) (u 
   pub remark : List ℕ
   pub seen : printable remark ≡ true
   pub plain : s .worded ≡ false → remark ≡ []
+  pub told : s .worded ≡ true → (row : List ℕ) × (remark ≡ remarkText (spoken t) row)
   pub text : Appended before n (lineText (s .lined) (t .count) (spoken t) remark) m after
   pub next : u ≡ nextLine t
   pub room : m ≤ n + 1600000

@@ -11,10 +11,11 @@ use Rattle.protocol.specs.Phase.{GAP, MALFORMED}
 use Rattle.protocol.specs.Said.{Said, partsIn}
 use Rattle.output.specs.Appended.{Appended}
 use Rattle.output.specs.Digits.{printable}
+use Rattle.words.specs.Row.{answerText}
 use Rattle.service.specs.declared.Given.{Given}
 use Rattle.service.specs.declared.Style.{Style}
 use Rattle.service.specs.declared.Reply.{Reply}
-use Rattle.service.specs.Answers.{Answer, unread, requestAnswer, lineText, refusalRow, refused}
+use Rattle.service.specs.Answers.{Answer, unread, requestAnswer, lineText, remarkText, refusalRow, refused}
 
 -- no answer is longer: a run's with the memory of a whole pool
 abbrev pub longest : ℕ
@@ -37,19 +38,21 @@ abbrev pub answerAt : Line → (words ends longs : List ℕ) → Answer
 answerAt l words ends longs =
     pick (eqb (l .phase) MALFORMED) (unread (l .stop)) (requestAnswer (l .form) (partsIn words ends (l .marked)) (take (l .stored) longs))
 
--- words after an answer, where they are asked for: a text without line ends
-pub record Remarked (worded : Bool) (before : List ℕ) (n r : ℕ) (after : List ℕ) : Type 0 where
+-- words after an answer, where they are asked for: a text without line ends, made of some row of the table of words
+pub record Remarked (worded : Bool) (g : Given) (before : List ℕ) (r : ℕ) (after : List ℕ) : Type 0 where
   pub remark : List ℕ
   pub seen : printable remark ≡ true
   pub plain : worded ≡ false → remark ≡ []
-  pub appended : Appended before n remark r after
-  pub room : r ≤ n + 16000
+  pub told : worded ≡ true → (row : List ℕ) × (remark ≡ answerText (g .row) (g .first) (g .second) row)
+  pub appended : Appended before (g .held) remark r after
+  pub room : r ≤ g .held + 16000
 
 -- an answer, the words after it and its line's end
 pub record Ended (worded : Bool) (g : Given) (before : List ℕ) (reply : Reply) (after : List ℕ) : Type 0 where
   pub remark : List ℕ
   pub seen : printable remark ≡ true
   pub plain : worded ≡ false → remark ≡ []
+  pub told : worded ≡ true → (row : List ℕ) × (remark ≡ answerText (g .row) (g .first) (g .second) row)
   pub text : Appended before (g .held) (remark ++ (10 ∷ [])) (reply .held) after
   pub refusal : reply .refused ≡ refusalRow (g .row)
   pub room : reply .held ≤ g .held + 16001
@@ -59,6 +62,7 @@ pub record Replied (s : Style) (count : ℕ) (what : Said) (before : List ℕ) (
   pub remark : List ℕ
   pub seen : printable remark ≡ true
   pub plain : s .worded ≡ false → remark ≡ []
+  pub told : s .worded ≡ true → (row : List ℕ) × (remark ≡ remarkText what row)
   pub text : Appended before n (lineText (s .lined) count what remark) (reply .held) after
   pub refusal : reply .refused ≡ refused what
   pub room : reply .held ≤ n + 1600000

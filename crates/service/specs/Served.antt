@@ -1,10 +1,10 @@
 -- What the program writes for the bytes that it reads, however they come in pieces.
-use mathlib.Core.Bool.{Bool, true, false}
+use mathlib.Core.Bool.{Bool, true}
 use mathlib.Core.List.{List, [], _∷_, _++_}
-use Prim.Native.Nat.{ℕ, zero, suc}
+use Prim.Native.Nat.{ℕ, suc}
 use lib.Dec.{eqb}
 use Rattle.model.specs.Question.{pick}
-use Rattle.protocol.specs.Reader.{Reader, reader, onLine, freshLine, past, step, reads, atEnd, Fine}
+use Rattle.protocol.specs.Reader.{Reader, reader, onLine, freshLine, past, step, reads, atEnd}
 use Rattle.protocol.specs.Said.{Said, said}
 use Rattle.service.specs.Answers.{lineText, refused}
 

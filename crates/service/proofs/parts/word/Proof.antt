@@ -1,13 +1,14 @@
 -- `parts::word` meets its contract.
 use denote.Ref.{now}
+use mathlib.Core.Path.{sym}
 use native.Mathlib.Omega.{arith}
-use Rattle.service.proofs.Cut.{getD-past}
+use Rattle.model.proofs.Lists.{getD-past}
 use borrow.Author.Needs.{needs}
 use Rattle.service.proofs.parts.word.Statement.{statement}
 use Rattle.service.proofs.parts.word.Tie as tie
 
 returns : tie.Need-returns
-returns c = let s = c .before in getD-past (now (s .args .row)) (s .args .i) 0 (omega arith)
+returns c = let s = c .before in sym (getD-past (now (s .args .row)) (s .args .i) 0 (omega arith))
 
 mul-result : tie.Need-mul-result
 mul-result c = search needs
