@@ -1,5 +1,5 @@
-/* Each call on a thread with just the stack that the header states for it. Below the stack lies a page that no one may touch, so a call that
- * needs more ends the program by a fault. The tables are as long as they may be, and memory is full of records.
+/* Each call on a thread with just the stack that the header states for it. Below the stack lies a page that no one may touch, so a call
+ * that needs more ends the program by a fault. The tables are as long as they may be, and memory is full of records.
  */
 #include <pthread.h>
 #include <stdio.h>
@@ -9,46 +9,50 @@
 #include "ramdulsi.h"
 
 #define PAGE 4096u
-#define TYPES 64
-#define BLOCKS 256
-#define CODE 8192
-#define RECORDS 2047
-#define MEMORY 16384
+#define WORDS(table) table, sizeof(table) / sizeof((table)[0])
+#define ROWS(table) (table)[0], sizeof(table) / sizeof((table)[0][0])
 
-static uint32_t types[TYPES * 9];
-static uint32_t tags[64];
-static uint32_t blocks[BLOCKS * 9];
-static uint32_t code[CODE];
-static uint32_t allocations[RECORDS * 2];
-static uint32_t memory[MEMORY];
+#define BLOCKS RAMDULSI_LIMIT_BLOCKS
+#define LENGTH RAMDULSI_LIMIT_BLOCK_LENGTH
+/* of eight words each, from address 1 on */
+#define RECORDS 2047u
+
+static uint32_t types[RAMDULSI_LIMIT_TYPES][RAMDULSI_LIMIT_ROW_WORDS];
+static uint32_t tags[RAMDULSI_LIMIT_TAGS];
+static uint32_t blocks[BLOCKS][RAMDULSI_LIMIT_ROW_WORDS];
+static uint32_t code[RAMDULSI_LIMIT_CODE];
+static uint32_t allocations[RECORDS][RAMDULSI_LIMIT_ALLOCATION_WORDS];
+static uint32_t memory[RAMDULSI_LIMIT_MEMORY];
 
 /* Every type has eight fields of any word; every block loads and stores through r0, a reference to type 0, and goes to the next. */
 static void fill(void)
 {
-    for (int t = 0; t < TYPES; t++)
-        types[t * 9] = 8;
-    for (int b = 0; b < BLOCKS; b++) {
-        blocks[b * 9] = 32;
-        blocks[b * 9 + 1] = 1u << 24;
-        for (int j = 0; j < 31; j++)
-            code[b * 32 + j] = (uint32_t)(8 + j % 2) << 24 | (uint32_t)(1 + j % 7) << 20 | (uint32_t)(j % 8);
-        code[b * 32 + 31] = b + 1 < BLOCKS ? 10u << 24 | (uint32_t)(b + 1) : 0;
+    const uint32_t any[8] = {0};
+    const uint32_t first_is_reference[8] = {ramdulsi_type_ref(0)};
+    for (uint32_t t = 0; t < RAMDULSI_LIMIT_TYPES; t++)
+        ramdulsi_row_of_type(types[t], RAMDULSI_LIMIT_FIELDS, any);
+    for (uint32_t b = 0; b < BLOCKS; b++) {
+        uint32_t *part = code + b * LENGTH;
+        ramdulsi_row_of_block(blocks[b], LENGTH, first_is_reference);
+        for (uint32_t j = 0; j < LENGTH - 1; j++)
+            part[j] = j % 2 == 0 ? ramdulsi_code_load(1 + j % 7, 0, j % 8) : ramdulsi_code_store(1 + j % 7, 0, j % 8);
+        part[LENGTH - 1] = b + 1 < BLOCKS ? ramdulsi_code_jump(b + 1) : ramdulsi_code_halt();
     }
-    for (int k = 0; k < RECORDS; k++)
-        allocations[k * 2] = (uint32_t)(1 + 8 * k);
+    for (uint32_t k = 0; k < RECORDS; k++)
+        ramdulsi_row_of_allocation(allocations[k], 1 + 8 * k, 0);
 }
 
 static void *check(void *given)
 {
     uint32_t place[2];
-    *(uint32_t *)given = ramdulsi_check(types, TYPES * 9, tags, 64, blocks, BLOCKS * 9, code, CODE, place);
+    *(uint32_t *)given = ramdulsi_check(ROWS(types), WORDS(tags), ROWS(blocks), WORDS(code), place);
     return NULL;
 }
 
 static void *memory_check(void *given)
 {
     uint32_t place[2];
-    *(uint32_t *)given = ramdulsi_memory_check(types, TYPES * 9, tags, 64, allocations, RECORDS * 2, memory, MEMORY, place);
+    *(uint32_t *)given = ramdulsi_memory_check(ROWS(types), WORDS(tags), ROWS(allocations), WORDS(memory), place);
     return NULL;
 }
 
@@ -56,8 +60,8 @@ static void *entry_check(void *given)
 {
     uint32_t place[2];
     uint32_t registers[8] = {1, 0, 0, 0, 0, 0, 0, 0};
-    *(uint32_t *)given = ramdulsi_entry_check(types, TYPES * 9, tags, 64, allocations, RECORDS * 2, memory, MEMORY, blocks,
-                                              BLOCKS * 9, code, CODE, 0, registers, place);
+    *(uint32_t *)given = ramdulsi_entry_check(ROWS(types), WORDS(tags), ROWS(allocations), WORDS(memory), ROWS(blocks), WORDS(code),
+                                              0, registers, place);
     return NULL;
 }
 
@@ -65,7 +69,7 @@ static void *run(void *given)
 {
     uint32_t answer[4];
     uint32_t registers[8] = {1, 0, 0, 0, 0, 0, 0, 0};
-    *(uint32_t *)given = ramdulsi_run(blocks, BLOCKS * 9, code, CODE, memory, MEMORY, 0, registers, 1000, answer);
+    *(uint32_t *)given = ramdulsi_run(ROWS(blocks), WORDS(code), WORDS(memory), 0, registers, 1000, answer);
     return NULL;
 }
 

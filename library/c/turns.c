@@ -7,116 +7,182 @@
 #include "ramdulsi.h"
 
 #define WORDS(table) table, sizeof(table) / sizeof((table)[0])
+#define ROWS(table) (table)[0], sizeof(table) / sizeof((table)[0][0])
 
-/* Type words: kind in bits 31 to 24, record type in 23 to 16, dependency in 15 to 8. A dependency is a field or register, or a constant and 8. */
-#define TYPE(kind, type, dependency) ((kind) * 0x1000000u + (type) * 0x10000u + (dependency) * 0x100u)
-#define ANY 0
-#define REF(type) TYPE(1, type, 0)
-#define TAGGED(dependency) TYPE(3, 0, dependency)
-#define NUMBER(constant) ((constant) + 8)
+/* ---- plots, and the records that they lead to */
 
-/* Instructions: opcode in bits 31 to 24, a in 23 to 20, b in 19 to 16, c in 15 to 0. */
-#define INSTRUCTION(opcode, a, b, c) ((opcode) * 0x1000000u + (a) * 0x100000u + (b) * 0x10000u + (c))
-#define HALT 0
-#define CONSTANT(a, c) INSTRUCTION(1, a, 0, c)    /* ra := c */
-#define SUBTRACT(a, b, c) INSTRUCTION(4, a, b, c) /* ra := rb - rc */
-#define MULTIPLY(a, b, c) INSTRUCTION(5, a, b, c) /* ra := rb * rc */
-#define DIVIDE(a, b, c) INSTRUCTION(6, a, b, c)   /* ra := rb / c */
-#define LOAD(a, b, c) INSTRUCTION(8, a, b, c)     /* ra := the word at rb + c */
-#define STORE(a, b, c) INSTRUCTION(9, a, b, c)    /* the word at rb + c := ra */
-/* if ra is the constant, the block, else the next one */
-#define IF_EQUAL(a, constant, block) INSTRUCTION(11, a, 0, (constant) * 0x100u + (block))
+/* raw (weight, moisture); corrected (weight); plot (stage, pointer that the stage tells of) */
+enum { RAW, CORRECTED, PLOT, TYPES };
+enum { WEIGHT = 0, MOISTURE = 1, STAGE = 0, POINTER = 1 };
 
-enum { RAW, CORRECTED, PLOT };
+/* where the records start: a corrected plot, a raw one, and an empty record for the second plot's corrected weight */
+enum { FIRST_PLOT = 1, SECOND_PLOT = 3, FIRST_CORRECTED = 5, SECOND_RAW = 6, SECOND_CORRECTED = 8 };
 
-/* A row is a field count and the types of the fields: raw (weight, moisture); corrected (weight); plot (stage, pointer that the stage tells of). */
-static const uint32_t types[] = {
-    2, ANY, ANY, 0, 0, 0, 0, 0, 0,
-    1, ANY, 0, 0, 0, 0, 0, 0, 0,
-    2, ANY, TAGGED(0), 0, 0, 0, 0, 0, 0};
+static uint32_t types[TYPES][RAMDULSI_LIMIT_ROW_WORDS];
 /* stage 0 is raw, stage 1 corrected */
 static const uint32_t tags[] = {RAW, CORRECTED};
+static uint32_t allocations[5][RAMDULSI_LIMIT_ALLOCATION_WORDS];
+static uint32_t memory[] = {0, 1, FIRST_CORRECTED, 0, SECOND_RAW, 8000, 8600, 22, 0};
 
-/* plots at 1 and 3, corrected weight at 5, raw weight at 6, a corrected record for the second plot at 8 */
-static const uint32_t allocations[] = {1, PLOT, 3, PLOT, 5, CORRECTED, 6, RAW, 8, CORRECTED};
-static uint32_t memory[] = {0, 1, 5, 0, 6, 8000, 8600, 22, 0};
+static void lay_out(void)
+{
+    const uint32_t any = ramdulsi_type_any();
+    const uint32_t raw[] = {any, any};
+    const uint32_t corrected[] = {any};
+    const uint32_t plot[] = {any, ramdulsi_type_tagged(ramdulsi_of_field(STAGE))};
+    ramdulsi_row_of_type(types[RAW], 2, raw);
+    ramdulsi_row_of_type(types[CORRECTED], 1, corrected);
+    ramdulsi_row_of_type(types[PLOT], 2, plot);
 
-/* A row is a block's length and the types of r0 to r7: r1 is the plot, r3 its pointer, r4 the corrected record. */
-static const uint32_t correction_blocks[] = {
-    3, ANY, REF(PLOT), ANY, ANY, REF(CORRECTED), ANY, ANY, ANY,
-    1, ANY, ANY, ANY, ANY, ANY, ANY, ANY, ANY,
-    1, ANY, REF(PLOT), ANY, TAGGED(NUMBER(0)), REF(CORRECTED), ANY, ANY, ANY,
-    11, ANY, REF(PLOT), ANY, REF(RAW), REF(CORRECTED), ANY, ANY, ANY};
-static const uint32_t correction_code[] = {
-    /* stage and pointer; a raw plot goes on at block 2 */
-    LOAD(2, 1, 0), LOAD(3, 1, 1), IF_EQUAL(2, 0, 2),
-    HALT,
-    /* no pointer, no correction */
-    IF_EQUAL(3, 0, 1),
-    /* the weight times the dry share over 86 into the corrected record; then stage and pointer */
-    LOAD(5, 3, 0), LOAD(6, 3, 1), CONSTANT(7, 100), SUBTRACT(6, 7, 6), MULTIPLY(5, 5, 6), DIVIDE(5, 5, 86), STORE(5, 4, 0),
-    CONSTANT(7, 1), STORE(7, 1, 0), STORE(4, 1, 1), HALT};
-
-/* r1 is the plot, r3 its pointer; r4 gets the weight. */
-static const uint32_t ranking_blocks[] = {
-    3, ANY, REF(PLOT), ANY, ANY, ANY, ANY, ANY, ANY,
-    1, ANY, ANY, ANY, ANY, ANY, ANY, ANY, ANY,
-    1, ANY, ANY, ANY, TAGGED(NUMBER(1)), ANY, ANY, ANY, ANY,
-    2, ANY, ANY, ANY, REF(CORRECTED), ANY, ANY, ANY, ANY};
-static const uint32_t ranking_code[] = {
-    /* stage and pointer; a corrected plot goes on at block 2 */
-    LOAD(2, 1, 0), LOAD(3, 1, 1), IF_EQUAL(2, 1, 2),
-    HALT,
-    IF_EQUAL(3, 0, 1),
-    LOAD(4, 3, 0), HALT};
-
-static void must(const char *what, uint32_t number, const uint32_t place[2]) {
-    printf("%s: %" PRIu32 " at %" PRIu32 ", %" PRIu32 "\n", what, number, place[0], place[1]);
-    if (number != 0) {
-        exit(1);
-    }
+    ramdulsi_row_of_allocation(allocations[0], FIRST_PLOT, PLOT);
+    ramdulsi_row_of_allocation(allocations[1], SECOND_PLOT, PLOT);
+    ramdulsi_row_of_allocation(allocations[2], FIRST_CORRECTED, CORRECTED);
+    ramdulsi_row_of_allocation(allocations[3], SECOND_RAW, RAW);
+    ramdulsi_row_of_allocation(allocations[4], SECOND_CORRECTED, CORRECTED);
 }
 
-/* One routine's state between its turns. */
-struct task {
+/* ---- the routines */
+
+/* A routine with room for its tables, and where it stands between its turns. */
+struct routine {
     const char *name;
-    const uint32_t *blocks;
-    size_t blocks_words;
-    const uint32_t *code;
+    uint32_t blocks[4][RAMDULSI_LIMIT_ROW_WORDS];
+    uint32_t code[16];
     size_t code_words;
     uint32_t block, registers[8], number;
 };
 
-static void turn(struct task *t) {
-    uint32_t answer[4];
-    t->number = ramdulsi_run(t->blocks, t->blocks_words, t->code, t->code_words, WORDS(memory), t->block, t->registers, 1, answer);
-    t->block = answer[0];
-    printf("%s: %" PRIu32 " at block %" PRIu32 ", index %" PRIu32 "\n", t->name, t->number, answer[0], answer[1]);
+/* Both have four blocks: the plot is looked at; it is not for this routine; its pointer is looked at; it is worked on. */
+enum { START, PASS_OVER, POINTED, WORK };
+
+/* r1 is the plot, r3 its pointer, r4 the corrected record. */
+static void write_correction(struct routine *r)
+{
+    const uint32_t any = ramdulsi_type_any(), plot = ramdulsi_type_ref(PLOT), corrected = ramdulsi_type_ref(CORRECTED);
+    const uint32_t at_start[8] = {any, plot, any, any, corrected, any, any, any};
+    const uint32_t nothing[8] = {any, any, any, any, any, any, any, any};
+    const uint32_t pointed[8] = {any, plot, any, ramdulsi_type_tagged(ramdulsi_of_constant(0)), corrected, any, any, any};
+    const uint32_t work[8] = {any, plot, any, ramdulsi_type_ref(RAW), corrected, any, any, any};
+    const uint32_t code[] = {
+        /* START: a raw plot goes on */
+        ramdulsi_code_load(2, 1, STAGE),
+        ramdulsi_code_load(3, 1, POINTER),
+        ramdulsi_code_if_equal(2, 0, POINTED),
+        /* PASS_OVER */
+        ramdulsi_code_halt(),
+        /* POINTED: no pointer, no correction */
+        ramdulsi_code_if_equal(3, 0, PASS_OVER),
+        /* WORK: the weight times the dry share over 86 into the corrected record; then stage and pointer in one block */
+        ramdulsi_code_load(5, 3, WEIGHT),
+        ramdulsi_code_load(6, 3, MOISTURE),
+        ramdulsi_code_constant(7, 100),
+        ramdulsi_code_subtract(6, 7, 6),
+        ramdulsi_code_multiply(5, 5, 6),
+        ramdulsi_code_divide(5, 5, 86),
+        ramdulsi_code_store(5, 4, WEIGHT),
+        ramdulsi_code_constant(7, 1),
+        ramdulsi_code_store(7, 1, STAGE),
+        ramdulsi_code_store(4, 1, POINTER),
+        ramdulsi_code_halt()};
+    ramdulsi_row_of_block(r->blocks[START], 3, at_start);
+    ramdulsi_row_of_block(r->blocks[PASS_OVER], 1, nothing);
+    ramdulsi_row_of_block(r->blocks[POINTED], 1, pointed);
+    ramdulsi_row_of_block(r->blocks[WORK], 11, work);
+    memcpy(r->code, code, sizeof(code));
+    r->code_words = sizeof(code) / sizeof(code[0]);
 }
 
-int main(void) {
-    uint32_t place[2];
-    struct task correction = {"correction", WORDS(correction_blocks), WORDS(correction_code), 0, {0, 3, 0, 0, 8, 0, 0, 0}, 40};
-    struct task ranking = {"ranking", WORDS(ranking_blocks), WORDS(ranking_code), 0, {0, 3, 0, 0, 0, 0, 0, 0}, 40};
+/* r1 is the plot, r3 its pointer; r4 gets the weight. */
+static void write_ranking(struct routine *r)
+{
+    const uint32_t any = ramdulsi_type_any();
+    const uint32_t at_start[8] = {any, ramdulsi_type_ref(PLOT), any, any, any, any, any, any};
+    const uint32_t nothing[8] = {any, any, any, any, any, any, any, any};
+    const uint32_t pointed[8] = {any, any, any, ramdulsi_type_tagged(ramdulsi_of_constant(1)), any, any, any, any};
+    const uint32_t work[8] = {any, any, any, ramdulsi_type_ref(CORRECTED), any, any, any, any};
+    const uint32_t code[] = {
+        /* START: a corrected plot goes on */
+        ramdulsi_code_load(2, 1, STAGE),
+        ramdulsi_code_load(3, 1, POINTER),
+        ramdulsi_code_if_equal(2, 1, POINTED),
+        /* PASS_OVER */
+        ramdulsi_code_halt(),
+        /* POINTED */
+        ramdulsi_code_if_equal(3, 0, PASS_OVER),
+        /* WORK */
+        ramdulsi_code_load(4, 3, WEIGHT),
+        ramdulsi_code_halt()};
+    ramdulsi_row_of_block(r->blocks[START], 3, at_start);
+    ramdulsi_row_of_block(r->blocks[PASS_OVER], 1, nothing);
+    ramdulsi_row_of_block(r->blocks[POINTED], 1, pointed);
+    ramdulsi_row_of_block(r->blocks[WORK], 2, work);
+    memcpy(r->code, code, sizeof(code));
+    r->code_words = sizeof(code) / sizeof(code[0]);
+}
 
-    must("check of the correction", ramdulsi_check(WORDS(types), WORDS(tags), WORDS(correction_blocks), WORDS(correction_code), place), place);
-    must("check of the ranking", ramdulsi_check(WORDS(types), WORDS(tags), WORDS(ranking_blocks), WORDS(ranking_code), place), place);
-    must("memory check", ramdulsi_memory_check(WORDS(types), WORDS(tags), WORDS(allocations), WORDS(memory), place), place);
-    must("entry check of the correction",
-         ramdulsi_entry_check(WORDS(types), WORDS(tags), WORDS(allocations), WORDS(memory), WORDS(correction_blocks),
-                              WORDS(correction_code), 0, correction.registers, place), place);
-    must("entry check of the ranking",
-         ramdulsi_entry_check(WORDS(types), WORDS(tags), WORDS(allocations), WORDS(memory), WORDS(ranking_blocks),
-                              WORDS(ranking_code), 0, ranking.registers, place), place);
-    while (correction.number == 40 || ranking.number == 40) {
-        if (correction.number == 40) {
-            turn(&correction);
-        }
-        if (ranking.number == 40) {
-            turn(&ranking);
-        }
+/* ---- checks and turns */
+
+static void must(const char *what, const char *name, uint32_t number, const uint32_t place[2])
+{
+    printf("%s%s: %" PRIu32 " at %" PRIu32 ", %" PRIu32 "\n", what, name, number, place[0], place[1]);
+    if (number != RAMDULSI_ANSWER_PASSED) {
+        exit(1);
     }
-    must("memory check after the turns", ramdulsi_memory_check(WORDS(types), WORDS(tags), WORDS(allocations), WORDS(memory), place), place);
-    printf("second plot: stage %" PRIu32 ", weight %" PRIu32 "\n", memory[3], memory[memory[4]]);
+}
+
+static void check(const struct routine *r)
+{
+    uint32_t place[2];
+    must("check of the ", r->name, ramdulsi_check(ROWS(types), WORDS(tags), ROWS(r->blocks), r->code, r->code_words, place), place);
+}
+
+static void check_memory(const char *what)
+{
+    uint32_t place[2];
+    must(what, "", ramdulsi_memory_check(ROWS(types), WORDS(tags), ROWS(allocations), WORDS(memory), place), place);
+}
+
+static void check_entry(const struct routine *r)
+{
+    uint32_t place[2];
+    uint32_t number = ramdulsi_entry_check(ROWS(types), WORDS(tags), ROWS(allocations), WORDS(memory), ROWS(r->blocks), r->code,
+                                           r->code_words, r->block, r->registers, place);
+    must("entry check of the ", r->name, number, place);
+}
+
+/* A turn of one block. A halted routine gets none. */
+static void turn(struct routine *r)
+{
+    uint32_t answer[4];
+    if (r->number != RAMDULSI_ANSWER_PAUSED) {
+        return;
+    }
+    r->number = ramdulsi_run(ROWS(r->blocks), r->code, r->code_words, WORDS(memory), r->block, r->registers, 1, answer);
+    r->block = answer[0];
+    printf("%s: %" PRIu32 " at block %" PRIu32 ", index %" PRIu32 "\n", r->name, r->number, answer[0], answer[1]);
+}
+
+int main(void)
+{
+    struct routine correction = {.name = "correction", .block = START, .number = RAMDULSI_ANSWER_PAUSED};
+    struct routine ranking = {.name = "ranking", .block = START, .number = RAMDULSI_ANSWER_PAUSED};
+    lay_out();
+    write_correction(&correction);
+    write_ranking(&ranking);
+    correction.registers[1] = SECOND_PLOT;
+    correction.registers[4] = SECOND_CORRECTED;
+    ranking.registers[1] = SECOND_PLOT;
+
+    check(&correction);
+    check(&ranking);
+    check_memory("memory check");
+    check_entry(&correction);
+    check_entry(&ranking);
+    while (correction.number == RAMDULSI_ANSWER_PAUSED || ranking.number == RAMDULSI_ANSWER_PAUSED) {
+        turn(&correction);
+        turn(&ranking);
+    }
+    check_memory("memory check after the turns");
+    printf("second plot: stage %" PRIu32 ", weight %" PRIu32 "\n", memory[SECOND_PLOT + STAGE], memory[memory[SECOND_PLOT + POINTER]]);
     return 0;
 }

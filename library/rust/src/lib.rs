@@ -4,27 +4,60 @@
 //! A routine that loads a plot's stage and halts, over one record type of two words:
 //!
 //! ```
-//! let types = [2, 0, 0, 0, 0, 0, 0, 0, 0];
-//! let blocks = [2, 0, 1 << 24, 0, 0, 0, 0, 0, 0];
-//! let code = [8 << 24 | 2 << 20 | 1 << 16, 0];
-//! assert!(ramdulsi::check(&types, &[], &blocks, &code).passed());
+//! use ramdulsi::word::*;
+//! use ramdulsi::Answer;
+//!
+//! const PLOT: u32 = 0;
+//! const STAGE: u32 = 0;
+//! const ANY: u32 = type_any();
+//! const TYPES: [u32; 9] = row_of_type(&[ANY, ANY]);
+//! const BLOCKS: [u32; 9] = row_of_block(2, [ANY, type_ref(PLOT), ANY, ANY, ANY, ANY, ANY, ANY]);
+//! const CODE: [u32; 2] = [code_load(2, 1, STAGE), code_halt()];
+//! assert!(ramdulsi::check(&TYPES, &[], &BLOCKS, &CODE).passed());
 //!
 //! let mut memory = [0, 7, 9];
-//! let allocations = [1, 0];
-//! assert!(ramdulsi::memory_check(&types, &[], &allocations, &memory).passed());
+//! let allocations = row_of_allocation(1, PLOT);
+//! assert!(ramdulsi::memory_check(&TYPES, &[], &allocations, &memory).passed());
 //! let registers = [0, 1, 0, 0, 0, 0, 0, 0];
-//! assert!(ramdulsi::entry_check(&types, &[], &allocations, &memory, &blocks, &code, 0, registers).passed());
+//! assert!(ramdulsi::entry_check(&TYPES, &[], &allocations, &memory, &BLOCKS, &CODE, 0, registers).passed());
 //!
-//! let end = ramdulsi::run(&blocks, &code, &mut memory, 0, registers, 10);
-//! assert_eq!((end.number, end.finished, end.registers[2]), (ramdulsi::HALTED, 1, 7));
+//! let end = ramdulsi::run(&BLOCKS, &CODE, &mut memory, 0, registers, 10);
+//! assert_eq!((end.answer(), end.finished, end.registers[2]), (Some(Answer::Halted), 1, 7));
+//!
+//! // a load through r3, of which nothing is known
+//! let refused = ramdulsi::check(&TYPES, &[], &BLOCKS, &[code_load(2, 3, STAGE), code_halt()]);
+//! assert_eq!(refused.answer(), Some(Answer::Reference));
+//! assert_eq!(Answer::Reference.to_string(), "reference: the base of a load or store is not known to be a reference");
 //! ```
+//!
+//! A routine may go round for ever, and a run ends only by a halt, a refusal or its budget. Give [`run`] a budget that your time allows,
+//! and go on with the block, registers and memory that it returned where it is paused.
+
+pub mod answer;
+pub mod limit;
+pub mod word;
+
+pub use answer::Answer;
+pub use word::{Kind, Opcode};
+
+/// The version of this binding, and of the archive that it comes with.
+pub const VERSION: &str = env!("CARGO_PKG_VERSION");
 
 /// The number of a run that halted, and of a check without a no.
-pub const HALTED: u32 = 0;
+pub const HALTED: u32 = Answer::Halted.number();
 /// The number of a run that is paused at the block of its answer.
-pub const PAUSED: u32 = 40;
+pub const PAUSED: u32 = Answer::Paused.number();
 
-/// Number and place of the first question with a no; 0 at 0, 0 where there is none.
+/// Number and place of the first question with a no; 0 at 0, 0 where there is none. The place, by number:
+///
+/// - 1: table (0 types, 1 tags, 2 blocks, 3 code), 0
+/// - 2, 3: row of types, 0; 4: tag, 0
+/// - 5, 6: row of blocks, 0; for 5 the block count where code is left over after the last block
+/// - 7 to 15: block, index over the whole code
+/// - 16, 17: 0, 0
+/// - 19: row of allocations, 0; row 0 for a list that is no whole rows or too long
+/// - 20: row of allocations, field
+/// - 21: register, 0
 #[derive(Clone, Copy, Debug, PartialEq, Eq)]
 pub struct Verdict {
     pub number: u32,
@@ -33,12 +66,18 @@ pub struct Verdict {
 }
 
 impl Verdict {
-    pub fn passed(self) -> bool {
-        self.number == 0
+    pub const fn passed(self) -> bool {
+        self.number == Answer::Passed.number()
+    }
+
+    /// What the number stands for; none for a number that no call gives.
+    pub const fn answer(self) -> Option<Answer> {
+        Answer::of_check(self.number)
     }
 }
 
-/// What a run returns beside the memory that it leaves.
+/// What a run returns beside the memory that it leaves. Block and index are those of the halt, of the block to go on with where it is
+/// paused, and of the instruction that is refused by 7, 8, 9 or 18; the place of 1, 5, 16 and 17 is that of a [`Verdict`].
 #[derive(Clone, Copy, Debug, PartialEq, Eq)]
 pub struct RunAnswer {
     pub number: u32,
@@ -46,6 +85,13 @@ pub struct RunAnswer {
     pub index: u32,
     pub finished: u64,
     pub registers: [u32; 8],
+}
+
+impl RunAnswer {
+    /// What the number stands for; none for a number that no call gives.
+    pub const fn answer(self) -> Option<Answer> {
+        Answer::of_run(self.number)
+    }
 }
 
 mod sys {
@@ -180,7 +226,8 @@ pub fn entry_check(
     })
 }
 
-/// Runs a routine for at most a budget of blocks; memory is left as the machine leaves it.
+/// Runs a routine for at most a budget of blocks; memory is left as the machine leaves it. A routine that goes round for ever does so
+/// for the whole budget, so a small one, and resuming, is better than `u64::MAX`.
 pub fn run(blocks: &[u32], code: &[u32], memory: &mut [u32], block: u32, registers: [u32; 8], budget: u64) -> RunAnswer {
     let mut registers = registers;
     let mut answer = [0; 4];

@@ -1,0 +1,81 @@
+//! The words that the binding makes, as the archive reads them: an instruction of each opcode carried out, a type of each kind checked.
+
+use ramdulsi::word::*;
+use ramdulsi::{check, entry_check, memory_check, run, Answer};
+
+const ANY: u32 = type_any();
+const NOTHING: [u32; 8] = [ANY; 8];
+const TYPES: [u32; 9] = row_of_type(&[ANY]);
+
+/// Registers and memory after a run that halts at the end of its second block.
+fn carried_out(code: &[u32], first: u32, memory: &mut [u32]) -> [u32; 8] {
+    let second = code.len() as u32 - first;
+    let blocks = [row_of_block(first, NOTHING), row_of_block(second, NOTHING)].concat();
+    let end = run(&blocks, code, memory, 0, [0, 1, 2, 3, 4, 5, 6, 7], 10);
+    assert_eq!((end.answer(), end.block, end.index as usize, end.finished), (Some(Answer::Halted), 1, code.len() - 1, 2));
+    end.registers
+}
+
+#[test]
+fn arithmetic() {
+    let code = [
+        code_constant(0, 8600),
+        code_copy(1, 0),
+        code_constant(2, 78),
+        code_add(3, 0, 2),
+        code_subtract(4, 2, 0),
+        code_multiply(5, 1, 2),
+        code_divide(6, 5, 86),
+        code_move(7, 2, -79),
+        code_jump(1),
+        code_halt(),
+    ];
+    let registers = carried_out(&code, 9, &mut [0]);
+    assert_eq!(registers, [8600, 8600, 78, 8678, 78u32.wrapping_sub(8600), 670_800, 7800, u32::MAX]);
+}
+
+#[test]
+fn memory_and_branches() {
+    let mut memory = [0, 10, 20, 30];
+    let registers = carried_out(&[code_load(7, 1, 1), code_if_equal(7, 20, 1), code_store(7, 2, 1), code_halt()], 2, &mut memory);
+    assert_eq!((registers[7], memory), (20, [0, 10, 20, 20]));
+    carried_out(&[code_if_less(1, 2, 1), code_halt()], 1, &mut memory);
+}
+
+/// Two records of two words each, at 1 and 3; each kind with a word that is of that type, and one that is not. A span starts at the second
+/// record, so that a word before it tells Run from From.
+#[test]
+fn kinds() {
+    let types = row_of_type(&[ANY, ANY]);
+    let allocations = [row_of_allocation(1, 0), row_of_allocation(3, 0)].concat();
+    let (start, end) = (of_constant(3), of_constant(5));
+    let cases = [
+        (type_ref(0), 3, 2),
+        (type_maybe(0), 0, 2),
+        (type_tagged(of_constant(0)), 0, 2),
+        (type_present(of_constant(0)), 1, 0),
+        (type_same(of_register(1)), 9, 8),
+        (type_run(0, start, end), 1, 2),
+        (type_from(0, start, end), 5, 1),
+        (type_in(0, start, end), 3, 5),
+    ];
+    for (word, yes, no) in cases {
+        let blocks = row_of_block(1, [word, ANY, ANY, ANY, ANY, ANY, ANY, ANY]);
+        let code = [code_halt()];
+        assert!(check(&types, &[0], &blocks, &code).passed());
+        let entry = |r0| entry_check(&types, &[0], &allocations, &[0; 5], &blocks, &code, 0, [r0, 9, 0, 0, 0, 0, 0, 0]).answer();
+        assert_eq!(entry(yes), Some(Answer::Passed), "{word:08x} of {yes}");
+        assert_eq!(entry(no), Some(Answer::Register), "{word:08x} of {no}");
+    }
+}
+
+#[test]
+fn no_word_is_refused() {
+    let field = row_of_type(&[NO_WORD]);
+    assert_eq!(memory_check(&field, &[], &[], &[0]).answer(), Some(Answer::FieldType));
+    let annotated = row_of_block(1, [NO_WORD; 8]);
+    assert_eq!(check(&TYPES, &[], &annotated, &[code_halt()]).answer(), Some(Answer::Annotation));
+    let plain = row_of_block(1, NOTHING);
+    assert_eq!(check(&TYPES, &[], &plain, &[NO_WORD]).answer(), Some(Answer::Instruction));
+    assert_eq!(run(&plain, &[NO_WORD], &mut [0], 0, [0; 8], 1).answer(), Some(Answer::Instruction));
+}
