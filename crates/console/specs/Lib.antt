@@ -1,2 +1,3 @@
--- What the arguments of the program ask for.
+-- What the arguments of the program ask for, and what its exit status says.
 pub mod Options
+pub mod Status

@@ -1,6 +1,8 @@
 // The inputs, one after the other. What was read is answered by the service, and what it answered is written before the next read, which may
 // have to wait.
 ghost use mathlib.Core.Path.{_≡_};
+ghost use mathlib.Core.Bool.{not};
+ghost use lib.Dec.{eqb};
 ghost use Rattle.service.specs.Filling.{placed, Ready};
 use crate::arguments;
 use crate::failures;
@@ -140,7 +142,9 @@ pub struct Ended {
     pub failed: bool,
 }
 
-fn reported(t: Turn, name: &[u8]) -> Ended {
+fn reported(t: Turn, name: &[u8]) -> Ended
+    ensures { λ r. ⌜ (r .refused ≡ t .place .refused) × (r .failed ≡ not (eqb (t .end) 1)) ⌝ }
+{
     let p = t.place;
     if t.end == READ_FAILED {
         failures::at_line(name, p.count, b"");

@@ -5,7 +5,11 @@ mod help;
 mod inputs;
 mod streams;
 
+ghost use mathlib.Core.Path.{_≡_};
+ghost use mathlib.Core.Bool.{false, not};
+ghost use Rattle.console.specs.Status.{statusOf};
 use arguments::Asked;
+use inputs::Ended;
 use service::Style;
 
 // ---- how it ended
@@ -19,12 +23,10 @@ pub const USAGE: i32 = 2;
 // Input or output failed.
 pub const FAILED: i32 = 3;
 
-fn serve(a: Asked) -> i32 {
-    let s = Style {
-        worded: a.worded,
-        lined: a.lined,
-    };
-    let e = inputs::all(s, a.named);
+// How the inputs ended, as a status.
+fn status(e: Ended) -> i32
+    ensures { λ r. ⌜ r ≡ statusOf (e .failed) (e .refused) ⌝ }
+{
     if e.failed {
         return FAILED;
     }
@@ -34,7 +36,18 @@ fn serve(a: Asked) -> i32 {
     ALL_WELL
 }
 
-fn said(written: bool) -> i32 {
+fn serve(a: Asked) -> i32 {
+    let s = Style {
+        worded: a.worded,
+        lined: a.lined,
+    };
+    status(inputs::all(s, a.named))
+}
+
+// Whether a text of the program's own was written, as a status.
+fn said(written: bool) -> i32
+    ensures { λ r. ⌜ r ≡ statusOf (not written) false ⌝ }
+{
     if written {
         return ALL_WELL;
     }
