@@ -84,6 +84,7 @@ pub fn files(program: &Program) -> Outcome {
     answered(program, &said, &wanted, 1, "standard input between two files")?;
     answered(program, &program.ask(&["empty"], b"check 1")?, b"", 0, "an empty file")?;
     answered(program, &program.ask(&["open", "empty", "open"], b"")?, b"0 0 0\n0 0 0\n", 0, "a line without an end, then another file")?;
+    answered(program, &program.ask(&["last", "open"], b"")?, b"1 0 0\n0 0 0\n", 1, "a file with a refusal, then one without")?;
     Ok("files are read in order, - is standard input, each begins on a new line with number 1, and an empty one gets no answer".into())
 }
 
