@@ -132,7 +132,8 @@ pub fn unknown(program: &Program) -> Outcome {
         command.stdin(Stdio::from(file.try_clone().map_err(|e| e.to_string())?));
         let said = finish(command, b"")?;
         let wrong = words.iter().find(|word| !["--lines", "--words"].contains(word)).expect("an unknown one");
-        if !said.out.is_empty() || !said.err.contains(wrong) || !said.err.to_lowercase().contains("usage") {
+        let named = format!("ramdulsi: unknown option {wrong}\nusage: ");
+        if !said.out.is_empty() || !said.err.starts_with(&named) {
             return Err(format!("{words:?}: writes {}, to standard error {:?}", shown(&said.out), said.err));
         }
         // the place in the file is the same for both, as they share it
