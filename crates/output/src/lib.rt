@@ -1,4 +1,5 @@
-// What the program answers, put into a buffer after what the buffer holds already. Nothing is written out here.
+// What the program answers, put into a buffer after what the buffer holds already. Nothing is written out here. The buffer has 2 MiB: an answer
+// has at most 135,168 words of ten digits, each after a blank, and some hundred bytes more.
 ghost use mathlib.Core.Path.{_≡_};
 ghost use mathlib.Core.List.{[], _∷_};
 ghost use Prim.Native.Nat.{_+_, _*_, _≤_};
@@ -9,9 +10,6 @@ ghost use Rattle.output.specs.Appended.{Appended};
 ghost use Rattle.output.specs.Digits.{lastDigits};
 use model::RunAnswer;
 use model::Verdict;
-
-// The bytes that a buffer holds. An answer has at most 135,168 words of ten digits, each after a blank, and some hundred bytes more.
-pub const SPACE: usize = 2097152;
 
 // ---- bytes
 

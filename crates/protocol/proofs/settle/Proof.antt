@@ -1,5 +1,5 @@
 -- `protocol::settle` meets its contract.
-use mathlib.Core.Path.{_≡_, sym, _∙_}
+use mathlib.Core.Path.{_≡_, sym, ap, _∙_}
 use Rattle.protocol.specs.Reader.{wanted, kind}
 use Rattle.protocol.proofs.Steps.{settled-other, settled-short, settled-whole}
 use borrow.Author.Needs.{needs}
@@ -8,7 +8,7 @@ use Rattle.protocol.proofs.settle.Tie as tie
 
 -- whether a number is wanted
 asked : (c : tie.After-wants) → let l = c .before .before .before .before .args .l in c .wants .result ≡ wanted (kind l) (l .left)
-asked c = c .wants .ensures ∙ rw (c .before .part-at .ensures)
+asked c = let l = c .before .before .before .before .args .l in c .wants .ensures ∙ ap (λ k. wanted k (l .left)) (c .before .part-at .ensures)
 
 returns : tie.Need-returns
 returns c = settled-other _ (c .if1 .taken)
