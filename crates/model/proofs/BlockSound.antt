@@ -69,6 +69,16 @@ module _ (P : Routine) (b : ℕ) (o : Store) where
 
 -- ---- what acceptance says of each instruction
 
+-- numbers apart from the readings beside them, which arithmetic would look through for facts
+none-below : (i : ℕ) → i < 0 → ⊥
+none-below i h = omega arith
+
+one-below : (i n : ℕ) → suc i < suc n → i < n
+one-below i n h = omega arith
+
+one-further : (j i : ℕ) → suc j + i ≡ j + suc i
+one-further j i = omega arith
+
 module _ (𝒯 : Tables) (P : Routine) where
   pub record PassedAt (b j : ℕ) : Type 0 where
     pub before : Reading
@@ -76,15 +86,24 @@ module _ (𝒯 : Tables) (P : Routine) where
     pub afterwards : Reading
     pub passes : readAt 𝒯 P b j before ≡ ok afterwards
 
+  -- the first instruction passed, and the others are read on from there
+  first-passed : (b n j : ℕ) (st : Reading) → readOn 𝒯 P b (suc n) j st ≡ ok tt
+      → (st' : Reading) × (readAt 𝒯 P b j st ≡ ok st') × (readOn 𝒯 P b n (suc j) st' ≡ ok tt)
+  unfolding readOn
+  first-passed b n j st q = then-ok (readAt 𝒯 P b j st) (readOn 𝒯 P b n (suc j)) q
+
+  read-further : (b j : ℕ) (st st' : Reading) → readingAt 𝒯 P b j ≡ ok st → readAt 𝒯 P b j st ≡ ok st' → readingAt 𝒯 P b (suc j) ≡ ok st'
+  unfolding readingAt
+  read-further b j st st' r p = ok-then (readingAt 𝒯 P b j) (readAt 𝒯 P b j) st r ∙ p
+
   passed-on : (b n j : ℕ) (st : Reading) → readingAt 𝒯 P b j ≡ ok st → readOn 𝒯 P b n j st ≡ ok tt → (i : ℕ) → i < n → PassedAt b (j + i)
-  unfolding readOn readingAt
-  passed-on b zero j st r q i h = absurd (omega arith)
+  passed-on b zero j st r q i h = absurd (none-below i h)
   passed-on b (suc n) j st r q zero h =
-      let (st', p, q₁) = then-ok _ _ q in rw add-zero (record { before = st; reads = r; afterwards = st'; passes = p })
+      let (st', p, q₁) = first-passed b n j st q in
+      subst (PassedAt b) (sym (add-zero j)) (record { before = st; reads = r; afterwards = st'; passes = p })
   passed-on b (suc n) j st r q (suc i) h =
-      let (st', p, q₁) = then-ok _ _ q in
-      let e : j + suc i ≡ suc j + i = omega arith in
-      rw e (passed-on b n (suc j) st' (ok-then _ _ st r ∙ p) q₁ i (omega arith))
+      let (st', p, q₁) = first-passed b n j st q in
+      subst (PassedAt b) (one-further j i) (passed-on b n (suc j) st' (read-further b j st st' r p) q₁ i (one-below i n h))
 
   -- at each instruction of a passed block no question has a no
   pub passed-block : (b : ℕ) → blockAsk 𝒯 P b ≡ ok tt → (j : ℕ) → j < P .long b → PassedAt b j
