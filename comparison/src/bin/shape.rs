@@ -1,7 +1,7 @@
 //! Looks at the machine code of the built archive for what its speed rests on and no proof sees: `shape ARCHIVE`. It measures nothing, so
 //! load does not matter to it. Where there is no objdump it says so and passes.
 //!
-//! - Known equality is split: the callers ask whether two values are one, and the rest is `fits::joined`, a function of its own.
+//! - Known equality is split: the callers ask whether two values are one, and the rest is `known::joined`, a function of its own.
 //! - The check's loops have a function to themselves, `verify::judge`: as a part of `ramdulsi_check` they would be compiled as seldom run.
 //! - A run copies neither its registers nor a table from instruction to instruction or from block to block: no vector register is used
 //!   where control can come from opcode 6's division and go back to it. Nor does it hand two numbers on as the halves of one register:
@@ -141,10 +141,10 @@ fn running(run: &[Instruction]) -> Vec<&Instruction> {
 /// What is wrong with known equality, and what is right.
 fn split(all: &[Instruction]) -> Result<String, String> {
     let has = |name: &str| all.iter().any(|i| i.function.contains(name));
-    match (has("fits::joined"), has("fits::known_equal")) {
-        (true, false) => Ok("fits::joined is a function of its own, fits::known_equal is none".to_string()),
+    match (has("known::joined"), has("known::known_equal")) {
+        (true, false) => Ok("known::joined is a function of its own, known::known_equal is none".to_string()),
         (joined, whole) => Err(format!(
-            "function fits::joined: {joined}, function fits::known_equal: {whole}; expected true and false: known_equal asks x == y and \
+            "function known::joined: {joined}, function known::known_equal: {whole}; expected true and false: known_equal asks x == y and \
              leaves the rest to joined, which has a second caller"
         )),
     }

@@ -19,10 +19,10 @@ use Rattle.model.proofs.Lists.{set-same}
 use Rattle.model.proofs.Logic.{byTest, byEqual, number-of, answer-number, answer-of, answer-none}
 use Rattle.instruction.specs.Form.{formNo, endOf, forks, Ending}
 use Rattle.instruction.proofs.Laws.{form-refuses, form-ending, form-answers, ending-word, end-halt, end-jump, end-equal, end-less}
-use Rattle.fits.specs.Numbers.{framesOf, valuesOf, depAt, siblingOf}
-use Rattle.fits.proofs.Numbers.{dep-name, byKind, type-any, type-ref, type-maybe, type-tagged, type-present, type-same, type-span}
-use Rattle.straight.specs.State.{reading, numbered}
-use Rattle.straight.proofs.Outcomes.{numbered-no}
+use Rattle.known.specs.Numbers.{framesOf, valuesOf, depAt, siblingOf}
+use Rattle.known.proofs.Numbers.{dep-name, byKind, type-any, type-ref, type-maybe, type-tagged, type-present, type-same, type-span}
+use Rattle.access.specs.State.{reading, numbered}
+use Rattle.access.proofs.Outcomes.{numbered-no}
 use Rattle.branch.specs.declared.EdgeFacts.{EdgeFacts}
 use Rattle.branch.specs.End.{endNo, retyped, pastZero, nextKind, takenIn, untakenIn, Tells, forkAsk, EdgeRows}
 

@@ -12,8 +12,8 @@ use Rattle.model.specs.Table.{Tables, Routine}
 use Rattle.model.specs.Machine.{End, Instruction, formAsk}
 use Rattle.model.specs.Reading.{Values, birthplace, typed, knownEqual, rowFits, Reading, notZero, noBase, taken, untaken}
 use Rattle.instruction.specs.Form.{targetOf, forks}
-use Rattle.fits.specs.Numbers.{valuesOf, Lent, depAt, siblingOf}
-use Rattle.straight.specs.State.{reading}
+use Rattle.known.specs.Numbers.{valuesOf, Lent, depAt, siblingOf}
+use Rattle.access.specs.State.{reading}
 use Rattle.branch.specs.declared.EdgeFacts.{EdgeFacts}
 
 -- the reading that the lent arrays make

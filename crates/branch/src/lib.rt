@@ -12,15 +12,15 @@ ghost use Rattle.model.specs.Reading.{typed, below, notBelow, rowFits};
 ghost use Rattle.model.specs.Check.{readEdges};
 ghost use Rattle.instruction.specs.Rows.{opcodeRows};
 ghost use Rattle.instruction.specs.Form.{endOf};
-ghost use Rattle.fits.specs.Numbers.{valuesOf, tablesIn, valuesIn};
-ghost use Rattle.straight.specs.State.{numbered};
+ghost use Rattle.known.specs.Numbers.{valuesOf, tablesIn, valuesIn};
+ghost use Rattle.access.specs.State.{numbered};
 ghost use Rattle.branch.specs.End.{readingIn, endNo, retyped, pastZero, nextKind, takenIn, untakenIn, Tells, forkAsk, EdgeRows};
+use access::NO_BASE;
 use model::limit;
 use model::number::OPEN_RECORD;
 use model::number::PASSED;
 use model::number::TAKEN_EDGE;
 use model::number::UNTAKEN_EDGE;
-use straight::NO_BASE;
 
 // The first no of Q7 to Q9 and Q13 at the last instruction of block b; base is that of the open record.
 pub fn may_end(rows: &[u32; 13], word: u32, b: u32, count: u32, base: u32) -> u32
@@ -75,8 +75,8 @@ fn next_kind(
     if word::kind(w) != kind {
         return w;
     }
-    let d = fits::dependency(frames, v as u32, x);
-    if !fits::known_equal(words, frames, constants, 0, 0, u, d) {
+    let d = known::dependency(frames, v as u32, x);
+    if !known::known_equal(words, frames, constants, 0, 0, u, d) {
         return w;
     }
     word::with_kind(kind + 1, w)

@@ -1,3 +1,2 @@
--- Laws of the crate: numbers for dependencies and constants, and one law for each way out of a function.
-pub mod Numbers
+-- Laws of the crate: one for each way out of a function.
 pub mod Answers

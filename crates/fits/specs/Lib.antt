@@ -1,2 +1,2 @@
 -- Definitions of the crate.
-pub mod Numbers
+pub mod Fits

@@ -1,3 +1,3 @@
 -- Laws of the crate: one for each way out of a function.
 pub mod Steps
-pub mod Outcomes
+pub mod Inside

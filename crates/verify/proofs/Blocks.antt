@@ -19,10 +19,10 @@ use Rattle.table.proofs.Laws.{row-inside, start-more, routine-annotation, type-
 use Rattle.table.proofs.Questions.{left, ComesTo, then-on, then-stops, no-refusal}
 use Rattle.instruction.specs.Form.{endOf, targetOf}
 use Rattle.instruction.proofs.Laws.{target-exists, next-exists}
-use Rattle.fits.specs.Numbers.{framesOf}
-use Rattle.straight.specs.State.{viewsOf, reading, Sizes, numbered}
-use Rattle.straight.proofs.Outcomes.{numbered-ok, numbered-no}
-use Rattle.straight.proofs.Steps.{size-past}
+use Rattle.known.specs.Numbers.{framesOf}
+use Rattle.access.specs.State.{viewsOf, reading, Sizes, numbered}
+use Rattle.access.proofs.Outcomes.{numbered-ok, numbered-no}
+use Rattle.access.proofs.Fields.{size-past}
 use Rattle.branch.specs.End.{EdgeRows}
 use Rattle.verify.specs.declared.Stopped.{Stopped}
 use Rattle.verify.specs.Blocks.{BlockAt, begun, ReadSoFar}

@@ -8,7 +8,7 @@ use Rattle.model.specs.Question.{isAnswer, then}
 use Rattle.model.specs.Table.{Tables, Routine, rows, startOf}
 use Rattle.model.specs.Reading.{Reading}
 use Rattle.model.specs.Check.{noAt, readOn}
-use Rattle.straight.specs.State.{reading, numbered}
+use Rattle.access.specs.State.{reading, numbered}
 use Rattle.verify.specs.declared.Stopped.{Stopped}
 
 -- starts has where each block starts, and after the last where the code ends

@@ -11,16 +11,16 @@ ghost use Rattle.model.specs.Table.{codeOf, Routine, routineOf, tablesOf};
 ghost use Rattle.model.specs.Machine.{decode};
 ghost use Rattle.model.specs.Check.{readInstruction, blockAsk, judge, tablesAsk, check};
 ghost use Rattle.instruction.specs.Rows.{opcodeRows};
-ghost use Rattle.fits.specs.Numbers.{tablesIn};
-ghost use Rattle.straight.specs.State.{Sizes, numbered};
+ghost use Rattle.known.specs.Numbers.{tablesIn};
+ghost use Rattle.access.specs.State.{Sizes, numbered};
 ghost use Rattle.branch.specs.End.{readingIn};
 ghost use Rattle.verify.specs.Blocks.{Starts, BlockAt, begun, Stops, ReadSoFar};
+use access::Fetched;
+use access::NO_BASE;
+use access::Progress;
 use model::Verdict;
 use model::limit;
 use model::number;
-use straight::Fetched;
-use straight::NO_BASE;
-use straight::Progress;
 use table::answer;
 
 // ---- blocks
@@ -162,7 +162,7 @@ fn block(
     let mut frames = [0u8; 32];
     let mut constants = [0u32; 32];
     let mut words = [0u32; 256];
-    straight::copy_row(&mut words, &own[1..], 0);
+    access::copy_row(&mut words, &own[1..], 0);
     let r = inside(
         rows,
         types,

@@ -13,7 +13,8 @@ use Rattle.model.specs.Word.{recordOf}
 use Rattle.model.specs.Table.{tablesOf}
 use Rattle.model.specs.Reading.{Values, fits}
 use Rattle.table.proofs.Questions.{test-false, test-true}
-use Rattle.fits.specs.Numbers.{valuesOf, meant}
+use Rattle.known.specs.Numbers.{valuesOf}
+use Rattle.fits.specs.Fits.{meant}
 use Rattle.fits.proofs.Answers.{firsts, seconds, known-of, span-below, span-ranked}
 use borrow.Author.Needs.{needs}
 use Rattle.fits.proofs.is_span.Statement.{statement}

@@ -7,7 +7,8 @@ use Rattle.model.specs.Question.{every}
 use Rattle.model.specs.Table.{tablesOf}
 use Rattle.model.specs.Reading.{rowFits}
 use Rattle.table.proofs.Questions.{test-false, test-true, every-on, every-stops, every-end}
-use Rattle.fits.specs.Numbers.{valuesOf, placeFits}
+use Rattle.known.specs.Numbers.{valuesOf}
+use Rattle.fits.specs.Fits.{placeFits}
 use Rattle.fits.proofs.Answers.{row-is}
 use Rattle.fits.proofs.row_fits.Statement.{statement}
 use Rattle.fits.proofs.row_fits.Tie as tie

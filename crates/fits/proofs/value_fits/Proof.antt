@@ -4,7 +4,8 @@ use mathlib.Core.List.{List}
 use Prim.Native.Nat.{ℕ}
 use native.Mathlib.Omega.{arith}
 use denote.Ref.{now}
-use Rattle.fits.proofs.Answers.{fits-any, fits-same, equal-one}
+use Rattle.known.proofs.Answers.{equal-one}
+use Rattle.fits.proofs.Answers.{fits-any, fits-same}
 use borrow.Author.Needs.{needs}
 use Rattle.fits.proofs.value_fits.Statement.{statement}
 use Rattle.fits.proofs.value_fits.Tie as tie

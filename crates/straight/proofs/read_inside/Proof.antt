@@ -3,8 +3,8 @@ use mathlib.Core.Path.{_∙_}
 use borrow.Author.Needs.{needs}
 use Rattle.instruction.specs.Form.{Inside}
 use Rattle.instruction.proofs.Laws.{inside-word, form-answers}
-use Rattle.straight.proofs.Outcomes.{inside-refuses, inside-reads}
-use Rattle.straight.proofs.Steps.{number-of}
+use Rattle.access.proofs.Outcomes.{number-of}
+use Rattle.straight.proofs.Inside.{inside-refuses, inside-reads}
 use Rattle.straight.proofs.read_inside.Statement.{statement}
 use Rattle.straight.proofs.read_inside.Tie as tie
 

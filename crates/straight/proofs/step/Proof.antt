@@ -4,8 +4,9 @@ use native.Mathlib.Omega.{arith}
 use denote.Ref.{now}
 use Rattle.model.proofs.Logic.{answer-none}
 use borrow.Author.Needs.{needs}
-use Rattle.fits.proofs.Numbers.{frames-at}
-use Rattle.straight.proofs.Steps.{Parts, fresh-is, step-copy, step-constant, step-move, step-arithmetic}
+use Rattle.known.proofs.Numbers.{frames-at}
+use Rattle.access.proofs.Fields.{Parts}
+use Rattle.straight.proofs.Steps.{fresh-is, step-copy, step-constant, step-move, step-arithmetic}
 use Rattle.straight.proofs.step.Statement.{statement}
 use Rattle.straight.proofs.step.Tie as tie
 

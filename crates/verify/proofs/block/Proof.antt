@@ -7,7 +7,7 @@ use lib.ListN.{length}
 use Rattle.model.specs.Question.{verdictOf}
 use Rattle.model.specs.Table.{codeOf}
 use Rattle.model.specs.Reading.{laidAt}
-use Rattle.straight.proofs.Steps.{part-is, part-length, row-words}
+use Rattle.access.proofs.Fields.{part-is, part-length, row-words}
 use Rattle.verify.proofs.Blocks.{block-begins, block-stops, block-refuses, block-passes}
 use borrow.Author.Needs.{needs}
 use Rattle.verify.proofs.block.Statement.{statement}

@@ -5,7 +5,7 @@ use denote.Ref.{now}
 use lib.ListN.{length}
 use Rattle.model.specs.Table.{codeOf, rows}
 use Rattle.instruction.specs.Form.{Ending}
-use Rattle.straight.proofs.Steps.{part-is, part-length, row-words}
+use Rattle.access.proofs.Fields.{part-is, part-length, row-words}
 use Rattle.table.proofs.Laws.{routine-count}
 use Rattle.branch.proofs.Ends.{end-word, end-answers, end-refuses, end-reads}
 use Rattle.verify.proofs.Blocks.{target-row, leads}

@@ -5,7 +5,7 @@ use native.Mathlib.Omega.{arith}
 use lib.ListN.{length}
 use denote.Ref.{now}
 use Rattle.model.specs.Table.{tablesOf}
-use Rattle.straight.specs.State.{reading}
+use Rattle.access.specs.State.{reading}
 use Rattle.verify.specs.Blocks.{begun}
 use Rattle.verify.proofs.Blocks.{InsideLeft, inside-begins, inside-on, inside-stops, inside-ends}
 use Rattle.verify.proofs.inside.Statement.{statement}

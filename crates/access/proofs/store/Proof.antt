@@ -1,0 +1,111 @@
+-- `access::store` meets its contract.
+use mathlib.Core.Path.{refl, _≡_}
+use mathlib.Core.Bool.{true, not}
+use Prim.Native.Nat.{ℕ, _*_, _+_, _≤_}
+use native.Mathlib.Omega.{arith}
+use denote.Ref.{now}
+use lib.Dec.{ltb, eqb}
+use lib.ListN.{length}
+use borrow.Author.Needs.{needs}
+use Rattle.model.specs.Question.{_or_, q12}
+use Rattle.model.proofs.Logic.{test-false, test-true, answer-of}
+use Rattle.access.proofs.Outcomes.{number-of}
+use Rattle.access.proofs.Fields.{store-other, store-closes, store-holds, part-is, part-length, row-words}
+use Rattle.access.proofs.store.Statement.{statement}
+use Rattle.access.proofs.store.Tie as tie
+
+-- ---- places: the type's row read, past Q12, and the field put
+
+abbrev start : tie.After-row → tie.Start
+start c = c .before .before .before .before .before .before
+
+abbrev rowed : tie.After-put → tie.After-row
+rowed c = c .before .before .before .before
+
+row-exists : (c : tie.After-row) → start c .args .x .t * 9 + 9 ≤ length (now (start c .args .types))
+row-exists c = start c .pre .3
+
+abbrev base : tie.After-row → ℕ
+base c = start c .args .s .base
+
+may-touch : (c : tie.After-row) → (not (ltb (base c) 256) or eqb (base c) (start c .args .x .v)) ≡ true
+may-touch c = let e = c .before .before in test-true (e .before .may-touch .ensures) (e .if1 .left)
+
+-- ---- the needs
+
+may-touch-requires : tie.Need-may-touch-requires
+may-touch-requires c κs = search needs
+
+refused-requires : tie.Need-refused-requires
+refused-requires c κs = search needs
+
+returns : tie.Need-returns
+returns c =
+    let t = c .before in
+    let n = number-of (c .refused .ensures) in (
+      λ place registers views. store-other _ _ _ _ _ _ _ _ (test-false (t .before .may-touch .ensures) (t .if1 .taken)) _ n _,
+      answer-of _ q12 n,
+    )
+
+cast-row : tie.Need-cast-row
+cast-row c = search needs
+
+row-requires : tie.Need-row-requires
+row-requires c κs = search needs
+
+cast-born : tie.Need-cast-born
+cast-born c = search needs
+
+sub-put : tie.Need-sub-put
+sub-put c = let r = c .before .before in omega (arith, row-words _ _ _ (row-exists r) (r .row .ensures))
+
+part-put-start : tie.Need-part-put-start
+part-put-start c = let r = c .before .before in omega (arith, row-words _ _ _ (row-exists r) (r .row .ensures))
+
+part-put-end : tie.Need-part-put-end
+part-put-end c = search needs
+
+put-requires : tie.Need-put-requires
+put-requires c κs = let r = c .before .before .before in omega (arith, part-length _ _ _ (row-exists r) (r .row .ensures))
+
+returns-2 : tie.Need-returns-2
+returns-2 c =
+    let p = c .before in
+    let r = rowed p in (
+      λ place registers views.
+          store-closes _ _ _ _ _ _ _ _ _ _ _ _ _ _ _ _ _ (may-touch r) _ _ (start r .pre .0) (part-is _ _ _ (r .row .ensures))
+          (p .put .ensures .1 _) _ (p .put .ensures .0) (c .if2 .taken),
+      refl,
+    )
+
+cast-base : tie.Need-cast-base
+cast-base c = search needs
+
+returns-3 : tie.Need-returns-3
+returns-3 c =
+    let e = c .before in
+    let p = e .before in
+    let r = rowed p in (
+      λ place registers views.
+          store-holds _ _ _ _ _ _ _ _ _ _ _ _ _ _ _ _ _ (may-touch r) _ _ (start r .pre .0) (part-is _ _ _ (r .row .ensures))
+          (p .put .ensures .1 _) _ (p .put .ensures .0) (e .if2 .left),
+      refl,
+    )
+
+pub store-spec : {M : Type 1} → statement M
+store-spec =
+    tie.close
+    (tie.spec
+    may-touch-requires
+    refused-requires
+    returns
+    cast-row
+    row-requires
+    cast-born
+    sub-put
+    part-put-start
+    part-put-end
+    put-requires
+    returns-2
+    cast-base
+    returns-3)
