@@ -7,8 +7,8 @@ ghost use Rattle.service.specs.Filling.{placed, Ready};
 use crate::arguments;
 use crate::failures;
 use crate::streams;
+use answers::Style;
 use service::Place;
-use service::Style;
 
 // ---- how far an input has come
 

@@ -8,9 +8,9 @@ mod streams;
 ghost use mathlib.Core.Path.{_≡_};
 ghost use mathlib.Core.Bool.{false, not};
 ghost use Rattle.console.specs.Status.{statusOf};
+use answers::Style;
 use arguments::Asked;
 use inputs::Ended;
-use service::Style;
 
 // ---- how it ended
 

@@ -2,9 +2,9 @@
 ghost use Prim.Native.Nat.{_<_, _≤_};
 ghost use lib.ListN.{length};
 ghost use Rattle.service.specs.Filling.{Ready};
+use answers::Style;
 use model::number;
 use service::Place;
-use service::Style;
 
 fn heading(out: &mut [u8; 2097152], n: usize) -> usize {
     page::text(

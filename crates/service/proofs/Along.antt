@@ -16,10 +16,10 @@ use Rattle.protocol.specs.Reader.{Reader, reader, onLine, freshLine, past, read
 use Rattle.protocol.proofs.Keeps.{fine-fresh}
 use Rattle.protocol.specs.Said.{said}
 use Rattle.service.specs.declared.Place.{Place}
-use Rattle.service.specs.declared.Reply.{Reply}
-use Rattle.service.specs.declared.Style.{Style}
-use Rattle.service.specs.Answers.{refused, lineText, remarkText}
-use Rattle.service.specs.Gives.{Replied}
+use Rattle.answers.specs.declared.Reply.{Reply}
+use Rattle.answers.specs.declared.Style.{Style}
+use Rattle.answers.specs.Answers.{refused, lineText, remarkText}
+use Rattle.answers.specs.Gives.{Replied}
 use Rattle.service.specs.Filling.{standingAt, placed, Ready, Answered, Same, Finished}
 use Rattle.service.specs.Served.{newline, spoken, toEnd, Standing, standing, further, nextLine, lineAnswer, alongBy}
 use Rattle.service.specs.Served.{served, stood, lastAnswer, lastRefused}

@@ -10,10 +10,10 @@ use Rattle.output.specs.Appended.{Appended}
 use Rattle.output.specs.Digits.{printable}
 use Rattle.protocol.specs.declared.Line.{Line}
 use Rattle.protocol.specs.Reader.{reader, Fine}
-use Rattle.service.specs.declared.Style.{Style}
+use Rattle.answers.specs.declared.Style.{Style}
 use Rattle.service.specs.declared.Place.{Place}
 use Rattle.service.specs.declared.Filled.{Filled}
-use Rattle.service.specs.Answers.{lineText, remarkText}
+use Rattle.answers.specs.Answers.{lineText, remarkText}
 use Rattle.service.specs.Served.{Standing, standing, spoken, nextLine, served, stood, lastAnswer, lastRefused}
 
 abbrev pub placed : Line → ℕ → Bool → ℕ → Place

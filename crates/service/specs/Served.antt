@@ -6,7 +6,7 @@ use lib.Dec.{eqb}
 use Rattle.model.specs.Question.{pick}
 use Rattle.protocol.specs.Reader.{Reader, reader, onLine, freshLine, past, step, reads, atEnd}
 use Rattle.protocol.specs.Said.{Said, said}
-use Rattle.service.specs.Answers.{lineText, refused}
+use Rattle.answers.specs.Answers.{lineText, refused}
 
 -- the byte that ends a line
 abbrev pub newline : ℕ

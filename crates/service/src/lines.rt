@@ -9,9 +9,8 @@ ghost use Rattle.service.specs.Served.{toEnd};
 ghost use Rattle.service.specs.Filling.{placed, Ready, Answered, Finished, standingIn, standingOut, Onward, Fills};
 use crate::Filled;
 use crate::Place;
-use crate::Reply;
-use crate::Style;
-use crate::answers;
+use answers::Reply;
+use answers::Style;
 use protocol::Line;
 
 // The answers that are held before they are to be written out.

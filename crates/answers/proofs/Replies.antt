@@ -1,0 +1,191 @@
+-- Laws of a line of output: its number, its answer, what is added in words.
+use mathlib.Core.Path.{_≡_, refl, sym, ap, subst, _∙_}
+use mathlib.Core.Bool.{Bool, true, false, not, false≢true}
+use mathlib.Core.List.{List, [], _∷_}
+use Prim.Native.Nat.{ℕ, _+_, _≤_}
+use native.Mathlib.Omega.{arith}
+use lib.Dec.{eqb}
+use lib.ListN.{take}
+use borrow.Author.Tests.{not-true, not-false, eqb-true, eqb-false, eq-eqb, ne-eqb}
+use Rattle.model.proofs.Logic.{byEqual, pick-true, pick-false}
+use Rattle.protocol.specs.Text.{decimal}
+use Rattle.output.specs.Appended.{Appended}
+use Rattle.output.specs.Digits.{allFrom}
+use Rattle.output.proofs.Appending.{nothing, after, same-text}
+use Rattle.protocol.specs.declared.Line.{Line}
+use Rattle.protocol.specs.Phase.{GAP, MALFORMED}
+use Rattle.protocol.specs.Reader.{Reader, reader}
+use Rattle.protocol.specs.Said.{Said, nothing as silence, malformedAt, request, said, partsIn}
+use Rattle.words.specs.Row.{answerText}
+use Rattle.words.specs.Told.{Told}
+use Rattle.answers.specs.declared.Given.{Given}
+use Rattle.answers.specs.declared.Style.{Style}
+use Rattle.answers.specs.declared.Reply.{Reply}
+use Rattle.answers.specs.Answers.{Answer, wordsOf, remarkText, lineNumber, outputLine, lineText, refusalRow, refused, haltedRow, unread, requestAnswer}
+use Rattle.answers.specs.Gives.{Gives, speaks, answerAt, Remarked, Ended, Replied}
+
+-- ---- the number of a line
+
+pub unnumbered : (lined : Bool) (count : ℕ) (out : List ℕ) (n : ℕ) → not lined ≡ true → Appended out n (lineNumber lined count) n out
+unnumbered lined count out n e = same-text (sym (pick-false lined _ _ (not-true lined e))) (nothing out n)
+
+module _ {a b c : List ℕ} {n m r : ℕ} where
+  pub with-number : (lined : Bool) (count : ℕ) → not lined ≡ false → Appended a n (decimal count) m b → Appended b m (32 ∷ []) r c
+      → Appended a n (lineNumber lined count) r c
+  with-number lined count e x y = same-text (sym (pick-true lined _ _ (not-false lined e))) (after x y)
+
+-- ---- what a line says
+
+module _ (l : Line) (w e n : List ℕ) where
+  abbrev r : Reader
+  r = reader l w e n
+
+  malformed-said : l .phase ≡ MALFORMED → said r ≡ malformedAt (l .stop)
+  unfolding said
+  malformed-said h = pick-true _ _ _ (eq-eqb _ _ h)
+
+  request-said : (l .phase ≡ MALFORMED → ⊥) → l .phase ≡ GAP → said r ≡ request (l .form) (partsIn w e (l .marked)) (take (l .stored) n)
+  unfolding said
+  request-said h g = pick-false _ _ _ (ne-eqb _ _ h) ∙ pick-true _ _ _ (eq-eqb _ _ g)
+
+  nothing-said : (l .phase ≡ MALFORMED → ⊥) → (l .phase ≡ GAP → ⊥) → said r ≡ silence
+  unfolding said
+  nothing-said h g = pick-false _ _ _ (ne-eqb _ _ h) ∙ pick-false _ _ _ (ne-eqb _ _ g)
+
+  -- a line that has an answer: malformed, or a request
+  spoken : (C : Said → Answer → Type 0) → ((place : ℕ) → C (malformedAt place) (unread place))
+      → ((form : ℕ) (parts : List (List ℕ)) (longs : List ℕ) → C (request form parts longs) (requestAnswer form parts longs))
+      → speaks (l .phase) ≡ true → C (said r) (answerAt l w e n)
+  spoken C m q h =
+      byEqual
+      (l .phase)
+      MALFORMED
+      (λ p.
+      let same = pick-true _ (unread (l .stop)) _ (eq-eqb _ _ p) in
+      subst (λ x. C x (answerAt l w e n)) (sym (malformed-said p)) (subst (λ a. C (malformedAt (l .stop)) a) (sym same) (m (l .stop))))
+      (λ p.
+      let g = eqb-true (l .phase) GAP (sym (pick-false _ _ _ (ne-eqb _ _ p)) ∙ h) in
+      let a = requestAnswer (l .form) (partsIn w e (l .marked)) (take (l .stored) n) in
+      subst
+      (λ x. C x (answerAt l w e n))
+      (sym (request-said p g))
+      (subst (λ x. C (request (l .form) (partsIn w e (l .marked)) (take (l .stored) n)) x) (sym (pick-false _ _ a (ne-eqb _ _ p))) (q _ _ _)))
+
+  spoken-text : (lined : Bool) (count : ℕ) (remark : List ℕ) → speaks (l .phase) ≡ true
+      → outputLine lined count (answerAt l w e n) remark ≡ lineText lined count (said r) remark
+  unfolding lineText
+  spoken-text lined count remark = spoken (λ x a. outputLine lined count a remark ≡ lineText lined count x remark) (λ k. refl) (λ f p q. refl)
+
+  spoken-refusal : speaks (l .phase) ≡ true → refusalRow (answerAt l w e n .row) ≡ refused (said r)
+  unfolding refused
+  spoken-refusal = spoken (λ x a. refusalRow (a .row) ≡ refused x) (λ k. refl) (λ f p q. refl)
+
+  spoken-words : (row : List ℕ) → speaks (l .phase) ≡ true → wordsOf (answerAt l w e n) row ≡ remarkText (said r) row
+  unfolding remarkText
+  spoken-words row = spoken (λ x a. wordsOf a row ≡ remarkText x row) (λ k. refl) (λ f p q. refl)
+
+  told-of : {b c : List ℕ} {m : ℕ} (g : Given) (row : List ℕ) → Gives b m (answerAt l w e n) g c
+      → answerText (g .row) (g .first) (g .second) row ≡ wordsOf (answerAt l w e n) row
+  told-of g row y =
+      let a = answerAt l w e n in
+      ap (λ k. answerText k (g .first) (g .second) row) (y .row)
+      ∙ ap (λ k. answerText (a .row) k (g .second) row) (y .first)
+      ∙ ap (λ k. answerText (a .row) (a .first) k row) (y .second)
+
+  silent : speaks (l .phase) ≡ false → said r ≡ silence
+  silent h =
+      byEqual
+      (l .phase)
+      MALFORMED
+      (λ p. absurd (false≢true (sym h ∙ pick-true _ _ _ (eq-eqb _ _ p))))
+      (λ p. nothing-said p (eqb-false (l .phase) GAP (sym (pick-false _ _ _ (ne-eqb _ _ p)) ∙ h)))
+
+  -- ---- a reply
+
+  pub no-reply : (s : Style) (count : ℕ) (out : List ℕ) (k : ℕ) → speaks (l .phase) ≡ false
+      → Replied s count (said r) out k (record { held = k; refused = false }) out
+  unfolding lineText remarkText refused allFrom
+  no-reply s count out k h =
+      record {
+        remark = [];
+        seen = refl;
+        plain = λ p. refl;
+        told = λ p. ([], sym (ap (λ x. remarkText x []) (silent h)));
+        text = same-text (sym (ap (λ x. lineText (s .lined) count x []) (silent h))) (nothing out k);
+        refusal = sym (ap refused (silent h));
+        room = omega arith;
+      }
+
+  pub replied : (s : Style) (count : ℕ) (out b c d : List ℕ) (k m : ℕ) (g : Given) (reply : Reply) → speaks (l .phase) ≡ true
+      → Appended out k (lineNumber (s .lined) count) m b → m ≤ k + 21 → Gives b m (answerAt l w e n) g c → Ended (s .worded) g c reply d
+      → Replied s count (said r) out k reply d
+  replied s count out b c d k m g reply h x small y z =
+      record {
+        remark = z .remark;
+        seen = z .seen;
+        plain = z .plain;
+        told = λ p. let (row, same) = z .told p in (row, same ∙ told-of g row y ∙ spoken-words row h);
+        text = same-text (spoken-text (s .lined) count (z .remark) h) (after x (after (y .text) (z .text)));
+        refusal = z .refusal ∙ ap refusalRow (y .row) ∙ spoken-refusal h;
+        room = omega (arith, small, y .room, z .room);
+      }
+
+-- ---- words, and the line's end
+
+pub unremarked : (worded : Bool) (g : Given) (out : List ℕ) → not worded ≡ true → Remarked worded g out (g .held) out
+unfolding allFrom
+unremarked worded g out h =
+    record {
+      remark = [];
+      seen = refl;
+      plain = λ p. refl;
+      told = λ p. absurd (false≢true (sym (not-true worded h) ∙ p));
+      appended = nothing out (g .held);
+      room = omega arith;
+    }
+
+pub remarked : (worded : Bool) (g : Given) (before : List ℕ) (m : ℕ) (left : List ℕ) → not worded ≡ false
+    → Told (answerText (g .row) (g .first) (g .second)) before (g .held) m left → Remarked worded g before m left
+remarked worded g before m left h x =
+    record {
+      remark = answerText (g .row) (g .first) (g .second) (x .row);
+      seen = x .seen;
+      plain = λ p. absurd (false≢true (sym p ∙ not-false worded h));
+      told = λ p. (x .row, refl);
+      appended = x .appended;
+      room = omega (arith, x .short, x .appended .end);
+    }
+
+pub line-ended : (worded : Bool) (g : Given) (a b c : List ℕ) (m : ℕ) (reply : Reply) → Remarked worded g a m b
+    → Appended b m (10 ∷ []) (reply .held) c → reply .refused ≡ refusalRow (g .row) → Ended worded g a reply c
+line-ended worded g a b c m reply x y e =
+    record {
+      remark = x .remark;
+      seen = x .seen;
+      plain = x .plain;
+      told = x .told;
+      text = after (x .appended) y;
+      refusal = e;
+      room = omega (arith, x .room, y .end);
+    }
+
+-- ---- single tests
+
+pub answers-malformed : (phase : ℕ) → phase ≡ MALFORMED → true ≡ speaks phase
+answers-malformed phase h = sym (pick-true _ _ _ (eq-eqb _ _ h))
+
+pub answers-request : (phase : ℕ) → (phase ≡ MALFORMED → ⊥) → eqb phase GAP ≡ speaks phase
+answers-request phase h = sym (pick-false _ _ _ (ne-eqb _ _ h))
+
+module _ (row : ℕ) where
+  pub passed-row : row ≡ 0 → false ≡ refusalRow row
+  unfolding refusalRow
+  passed-row h = sym (pick-true _ _ _ (eq-eqb _ _ h))
+
+  pub paused-row : (row ≡ 0 → ⊥) → row ≡ 40 → false ≡ refusalRow row
+  unfolding refusalRow
+  paused-row h p = sym (pick-false _ _ _ (ne-eqb _ _ h) ∙ pick-true _ _ _ (eq-eqb _ _ p))
+
+  pub other-row : (row ≡ 0 → ⊥) → (row ≡ 40 → ⊥) → not (eqb row haltedRow) ≡ refusalRow row
+  unfolding refusalRow
+  other-row h p = sym (pick-false _ _ _ (ne-eqb _ _ h) ∙ pick-false _ _ _ (ne-eqb _ _ p))

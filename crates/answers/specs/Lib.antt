@@ -1,0 +1,3 @@
+-- What the program answers to a line.
+pub mod Answers
+pub mod Gives

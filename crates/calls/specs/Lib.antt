@@ -1,0 +1,2 @@
+-- The calls that requests ask for.
+pub mod Requests
