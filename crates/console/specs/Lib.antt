@@ -1,3 +1,2 @@
--- What the arguments of the program ask for, and what its exit status says.
-pub mod Options
+-- What the exit status of the program says.
 pub mod Status

@@ -4,11 +4,11 @@ ghost use mathlib.Core.Path.{_≡_};
 ghost use mathlib.Core.Bool.{not};
 ghost use lib.Dec.{eqb};
 ghost use Rattle.service.specs.Filling.{placed, Ready};
-use crate::arguments;
-use crate::failures;
-use crate::streams;
 use answers::Style;
 use service::Place;
+use terminal::arguments;
+use terminal::failures;
+use terminal::streams;
 
 // ---- how far an input has come
 
@@ -158,6 +158,29 @@ fn reported(t: Turn, name: &[u8]) -> Ended
     }
 }
 
+// Whether a name stands for standard input.
+fn is_standard(name: &[u8]) -> bool {
+    check::same(name, b"-")
+}
+
+// The descriptor of an input, below 0 where it cannot be opened.
+fn opened(name: &[u8]) -> i32 {
+    if is_standard(name) {
+        return libc::STDIN_FILENO;
+    }
+    os::open_read(name)
+}
+
+// How an input ended, once it is closed; standard input is left open.
+fn closed(t: Turn, name: &[u8], from: i32) -> Ended {
+    if is_standard(name) {
+        return reported(t, b"standard input");
+    }
+    let ended = reported(t, name);
+    libc::close(from);
+    ended
+}
+
 // An input by its name.
 fn named(
     name: &[u8],
@@ -169,12 +192,7 @@ fn named(
     space: &mut [u32; 135168],
     out: &mut [u8; 2097152],
 ) -> Ended {
-    let start = service::start(e.refused);
-    if check::same(name, b"-") {
-        let t = input(libc::STDIN_FILENO, start, s, words, ends, longs, space, out);
-        return reported(t, b"standard input");
-    }
-    let from = os::open_read(name);
+    let from = opened(name);
     if from < 0 {
         failures::of(name);
         return Ended {
@@ -182,16 +200,23 @@ fn named(
             failed: true,
         };
     }
-    let t = input(from, start, s, words, ends, longs, space, out);
-    let ended = reported(t, name);
-    libc::close(from);
-    ended
+    let start = service::start(e.refused);
+    closed(
+        input(from, start, s, words, ends, longs, space, out),
+        name,
+        from,
+    )
 }
 
 // How far the arguments were gone through; after --, every argument is a name.
 pub struct Listed {
     pub ended: Ended,
     pub literal: bool,
+}
+
+// After it every argument is a name.
+fn ends_options(argument: &[u8]) -> bool {
+    check::same(argument, b"--")
 }
 
 // The input that an argument names, if it names one.
@@ -217,7 +242,7 @@ fn argument(
     }
     Listed {
         ended: e,
-        literal: check::same(&text[..n], b"--"),
+        literal: ends_options(&text[..n]),
     }
 }
 

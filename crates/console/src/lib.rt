@@ -1,16 +1,14 @@
 // The program: what its arguments ask for, the inputs that they name one after the other, and how it ended.
-mod arguments;
-mod failures;
-mod help;
 mod inputs;
-mod streams;
 
 ghost use mathlib.Core.Path.{_≡_};
 ghost use mathlib.Core.Bool.{false, not};
 ghost use Rattle.console.specs.Status.{statusOf};
 use answers::Style;
-use arguments::Asked;
 use inputs::Ended;
+use terminal::arguments;
+use terminal::arguments::Asked;
+use terminal::help;
 
 // ---- how it ended
 

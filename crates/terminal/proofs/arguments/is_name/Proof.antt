@@ -1,10 +1,10 @@
 -- `arguments::is_name` meets its contract.
 use native.Mathlib.Omega.{arith}
 use denote.Ref.{now}
-use Rattle.console.proofs.Asking.{name-short, name-by-first}
+use Rattle.terminal.proofs.Asking.{name-short, name-by-first}
 use borrow.Author.Needs.{needs}
-use Rattle.console.proofs.arguments.is_name.Statement.{statement}
-use Rattle.console.proofs.arguments.is_name.Tie as tie
+use Rattle.terminal.proofs.arguments.is_name.Statement.{statement}
+use Rattle.terminal.proofs.arguments.is_name.Tie as tie
 
 returns : tie.Need-returns
 returns c = search needs

@@ -1,9 +1,9 @@
 -- `arguments::same` meets its contract.
 use denote.Ref.{now}
-use Rattle.console.proofs.Asking.{decides}
+use Rattle.terminal.proofs.Asking.{decides}
 use borrow.Author.Needs.{needs}
-use Rattle.console.proofs.arguments.same.Statement.{statement}
-use Rattle.console.proofs.arguments.same.Tie as tie
+use Rattle.terminal.proofs.arguments.same.Statement.{statement}
+use Rattle.terminal.proofs.arguments.same.Tie as tie
 
 same-requires : tie.Need-same-requires
 same-requires c κs = search needs

@@ -1,6 +1,6 @@
 // The arguments: options, and names of inputs.
 ghost use mathlib.Core.Path.{_≡_};
-ghost use Rattle.console.specs.Options.{isName, wishing as wishingFor, optioned, same as sameBytes};
+ghost use Rattle.terminal.specs.Options.{isName, wishing as wishingFor, optioned, same as sameBytes};
 use crate::help;
 
 // ---- what is wished for

@@ -7,7 +7,7 @@ use lib.Dec.{ltb, eqb}
 use lib.ListN.{length, getD}
 use Rattle.model.specs.Question.{pick}
 use Rattle.protocol.specs.Codes.{codes}
-use Rattle.console.specs.declared.arguments.Asked.{Asked}
+use Rattle.terminal.specs.declared.arguments.Asked.{Asked}
 
 -- ---- wishes
 

@@ -3,8 +3,8 @@ use mathlib.Core.Path.{_≡_, refl}
 use lib.ListN.{length}
 use native.Mathlib.Omega.{arith}
 use borrow.Author.Needs.{needs}
-use Rattle.console.proofs.streams.read.Statement.{statement}
-use Rattle.console.proofs.streams.read.Tie as tie
+use Rattle.terminal.proofs.streams.read.Statement.{statement}
+use Rattle.terminal.proofs.streams.read.Tie as tie
 
 abbrev Inv-loop : tie.InvT-loop
 Inv-loop from buffer₀ tries₀ buffer tries = length buffer ≡ length buffer₀

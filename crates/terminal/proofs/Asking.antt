@@ -8,8 +8,8 @@ use lib.Dec.{eqb}
 use lib.ListN.{length, getD}
 use Rattle.model.specs.Question.{pick}
 use Rattle.model.proofs.Logic.{byTest, pick-true, pick-false}
-use Rattle.console.specs.declared.arguments.Asked.{Asked}
-use Rattle.console.specs.Options.{same, is, isName, wishing, optioned, helping, versioning, unknown}
+use Rattle.terminal.specs.declared.arguments.Asked.{Asked}
+use Rattle.terminal.specs.Options.{same, is, isName, wishing, optioned, helping, versioning, unknown}
 
 -- ---- the same bytes
 

@@ -2,11 +2,11 @@
 use mathlib.Core.Path.{_≡_, sym, _∙_}
 use mathlib.Core.Bool.{false}
 use denote.Ref.{now}
-use Rattle.console.specs.Options.{is}
-use Rattle.console.proofs.Asking.{option-words, option-lines, option-names, option-h, option-help, option-version, option-none}
+use Rattle.terminal.specs.Options.{is}
+use Rattle.terminal.proofs.Asking.{option-words, option-lines, option-names, option-h, option-help, option-version, option-none}
 use borrow.Author.Needs.{needs}
-use Rattle.console.proofs.arguments.option.Statement.{statement}
-use Rattle.console.proofs.arguments.option.Tie as tie
+use Rattle.terminal.proofs.arguments.option.Statement.{statement}
+use Rattle.terminal.proofs.arguments.option.Tie as tie
 
 slice-aggregate-same : tie.Need-slice-aggregate-same
 slice-aggregate-same c = search needs

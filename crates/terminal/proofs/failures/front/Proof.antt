@@ -3,8 +3,8 @@ use mathlib.Core.Path.{sym}
 use native.Mathlib.Omega.{arith}
 use lib.Seq.{length-take-le}
 use borrow.Author.Needs.{needs}
-use Rattle.console.proofs.failures.front.Statement.{statement}
-use Rattle.console.proofs.failures.front.Tie as tie
+use Rattle.terminal.proofs.failures.front.Statement.{statement}
+use Rattle.terminal.proofs.failures.front.Tie as tie
 
 slice-aggregate-fail : tie.Need-slice-aggregate-fail
 slice-aggregate-fail c = sym (length-take-le _ _ (omega arith))

@@ -1,8 +1,8 @@
 -- `streams::write` meets its contract.
 use native.Mathlib.Omega.{arith}
 use borrow.Author.Needs.{needs}
-use Rattle.console.proofs.streams.write.Statement.{statement}
-use Rattle.console.proofs.streams.write.Tie as tie
+use Rattle.terminal.proofs.streams.write.Statement.{statement}
+use Rattle.terminal.proofs.streams.write.Tie as tie
 
 abbrev Inv-loop : tie.InvT-loop
 Inv-loop bytes tries₀ done₀ tries done = Unit {0}

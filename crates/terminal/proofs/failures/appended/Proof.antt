@@ -3,8 +3,8 @@ use native.Mathlib.Omega.{arith}
 use borrow.Author.Needs.{needs}
 use Prim.Native.Nat.{_-_}
 use lib.ListN.{length}
-use Rattle.console.proofs.failures.appended.Statement.{statement}
-use Rattle.console.proofs.failures.appended.Tie as tie
+use Rattle.terminal.proofs.failures.appended.Statement.{statement}
+use Rattle.terminal.proofs.failures.appended.Tie as tie
 
 abbrev Inv-loop : tie.InvT-loop
 Inv-loop text₀ n bytes at₀ i₀ text at i = Unit {0}

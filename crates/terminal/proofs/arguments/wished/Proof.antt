@@ -2,8 +2,8 @@
 use native.Mathlib.Omega.{arith}
 use borrow.Author.Needs.{needs}
 use Prim.Native.Nat.{_-_}
-use Rattle.console.proofs.arguments.wished.Statement.{statement}
-use Rattle.console.proofs.arguments.wished.Tie as tie
+use Rattle.terminal.proofs.arguments.wished.Statement.{statement}
+use Rattle.terminal.proofs.arguments.wished.Tie as tie
 
 abbrev Inv-loop : tie.InvT-loop
 Inv-loop count a₀ i₀ a i = Unit {0}

@@ -1,0 +1,2 @@
+-- What the arguments of the program ask for.
+pub mod Options
