@@ -16,8 +16,8 @@ use Rattle.protocol.specs.declared.Line.{Line}
 use Rattle.protocol.specs.Phase.{GAP, MALFORMED}
 use Rattle.protocol.specs.Reader.{Reader, reader}
 use Rattle.protocol.specs.Said.{Said, nothing as silence, malformedAt, request, said, partsIn}
-use Rattle.words.specs.Row.{answerText}
-use Rattle.words.specs.Told.{Told}
+use Rattle.telling.specs.Row.{answerText}
+use Rattle.telling.specs.Told.{Told}
 use Rattle.answers.specs.declared.Given.{Given}
 use Rattle.answers.specs.declared.Style.{Style}
 use Rattle.answers.specs.declared.Reply.{Reply}

@@ -9,7 +9,7 @@ use Rattle.model.specs.declared.RunAnswer.{RunAnswer}
 use Rattle.model.specs.Question.{pick}
 use Rattle.model.specs.Machine.{Run, returned}
 use Rattle.protocol.specs.Text.{decimal, verdictText, runText, malformedText}
-use Rattle.words.specs.Row.{answerText}
+use Rattle.telling.specs.Row.{answerText}
 use Rattle.protocol.specs.Said.{Said, nothing, malformedAt, request}
 use Rattle.calls.specs.Requests.{checkVerdict, memoryVerdict, entryVerdict, runOf}
 

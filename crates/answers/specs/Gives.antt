@@ -11,7 +11,7 @@ use Rattle.protocol.specs.Phase.{GAP, MALFORMED}
 use Rattle.protocol.specs.Said.{Said, partsIn}
 use Rattle.output.specs.Appended.{Appended}
 use Rattle.output.specs.Digits.{printable}
-use Rattle.words.specs.Row.{answerText}
+use Rattle.telling.specs.Row.{answerText}
 use Rattle.answers.specs.declared.Given.{Given}
 use Rattle.answers.specs.declared.Style.{Style}
 use Rattle.answers.specs.declared.Reply.{Reply}

@@ -40,11 +40,11 @@ fn cell(out: &mut [u8; 2097152], n: usize, row: u32, column: u32) -> usize {
 
 // A row after its number.
 fn columns(out: &mut [u8; 2097152], n: usize, row: u32) -> usize {
-    let a = cell(out, n, row, words::NAME);
-    let b = cell(out, a, row, words::MEANING);
-    let c = cell(out, b, row, words::CAUSE);
-    let d = cell(out, c, row, words::REMEDY);
-    let e = cell(out, d, row, words::PLACE);
+    let a = cell(out, n, row, telling::NAME);
+    let b = cell(out, a, row, telling::MEANING);
+    let c = cell(out, b, row, telling::CAUSE);
+    let d = cell(out, c, row, telling::REMEDY);
+    let e = cell(out, d, row, telling::PLACE);
     page::text(out, e, b" |\n")
 }
 

@@ -3,9 +3,10 @@
 mod rows;
 
 ghost use Prim.Native.Nat.{_+_, _≤_};
-ghost use Rattle.words.specs.Row.{columnOf, answerText, saidText};
-ghost use Rattle.words.specs.Told.{Told};
+ghost use Rattle.telling.specs.Row.{columnOf, answerText, saidText};
+ghost use Rattle.telling.specs.Told.{Told};
 use model::number;
+use telling::Asked;
 
 // ---- the rows
 
@@ -15,35 +16,6 @@ pub const LAST: u32 = number::CODE_INDEX;
 pub const HALTED: u32 = 100;
 // A line that is no request.
 pub const MALFORMED: u32 = 101;
-
-// ---- the columns of a row
-
-pub const NAME: u32 = 0;
-
-pub const MEANING: u32 = 1;
-
-pub const CAUSE: u32 = 2;
-
-pub const REMEDY: u32 = 3;
-
-pub const PLACE: u32 = 4;
-
-// How the letters A and B are written.
-pub struct Letters {
-    // as the numbers answered
-    pub answered: bool,
-    pub first: u64,
-    pub second: u64,
-}
-
-pub struct Asked {
-    pub number: u32,
-    // an answer in words, or else one column
-    pub whole: bool,
-    pub column: u32,
-    pub first: u64,
-    pub second: u64,
-}
 
 fn later(out: &mut [u8; 2097152], n: usize, a: Asked) -> usize
     requires { ⌜ n + 16384 ≤ 2097152 ⌝ }
@@ -117,7 +89,7 @@ pub fn explain(out: &mut [u8; 2097152], n: usize, row: u32, first: u64, second: 
     let a = Asked {
         number: row,
         whole: true,
-        column: NAME,
+        column: telling::NAME,
         first: first,
         second: second,
     };

@@ -1,15 +1,15 @@
--- `rows::place` appends the place of an answer, if the answer has one.
+-- `place` appends the place of an answer, if the answer has one.
 use mathlib.Core.Bool.{true, false}
 use mathlib.Core.Path.{_≡_, sym, _∙_}
 use native.Mathlib.Omega.{arith}
 use borrow.Author.Needs.{needs}
 use borrow.Author.Tests.{not-true, not-false}
 use Rattle.output.proofs.Appending.{nothing, after, same-text}
-use Rattle.words.specs.Row.{hasPlace, answering}
-use Rattle.words.proofs.Columns.{no-place, with-place}
-use Rattle.words.proofs.Widths.{written-short}
-use Rattle.words.proofs.rows.place.Statement.{statement}
-use Rattle.words.proofs.rows.place.Tie as tie
+use Rattle.telling.specs.Row.{hasPlace, answering}
+use Rattle.telling.proofs.Columns.{no-place, with-place}
+use Rattle.telling.proofs.Widths.{written-short}
+use Rattle.telling.proofs.place.Statement.{statement}
+use Rattle.telling.proofs.place.Tie as tie
 
 -- where the function begins, from where the test was made
 abbrev start : tie.After-has-place → tie.Start

@@ -1,7 +1,7 @@
--- `rows::has_place` meets its contract, test by test.
+-- `has_place` meets its contract, test by test.
 use borrow.Author.Tests.{eq-eqb, ne-eqb}
-use Rattle.words.proofs.rows.has_place.Statement.{statement}
-use Rattle.words.proofs.rows.has_place.Tie as tie
+use Rattle.telling.proofs.has_place.Statement.{statement}
+use Rattle.telling.proofs.has_place.Tie as tie
 
 returns : tie.Need-returns
 returns c = simp (eq-eqb _ _ (c .if1 .taken))

@@ -9,8 +9,8 @@ use Rattle.model.specs.Question.{pick, numberOf, q16, q17}
 use Rattle.protocol.specs.Codes.{codes}
 use Rattle.protocol.specs.Text.{decimal}
 use Rattle.output.specs.Digits.{printable}
-use Rattle.words.specs.declared.Letters.{Letters}
-use Rattle.words.specs.declared.Asked.{Asked}
+use Rattle.telling.specs.declared.Letters.{Letters}
+use Rattle.telling.specs.declared.Asked.{Asked}
 
 -- ---- columns
 

@@ -1,16 +1,16 @@
--- `rows::answer` appends name, meaning and place, with what stands between them.
+-- `answer` appends name, meaning and place, with what stands between them.
 use mathlib.Core.Bool.{false}
 use mathlib.Core.Path.{_≡_, refl}
 use Prim.Native.Nat.{_+_, _≤_}
 use native.Mathlib.Omega.{arith}
 use borrow.Author.Needs.{needs}
 use Rattle.output.proofs.Appending.{after, same-text}
-use Rattle.words.specs.declared.Letters.{Letters}
-use Rattle.words.specs.Row.{columnOf}
-use Rattle.words.proofs.Columns.{written-plain}
-use Rattle.words.proofs.Widths.{plain-short}
-use Rattle.words.proofs.rows.answer.Statement.{statement}
-use Rattle.words.proofs.rows.answer.Tie as tie
+use Rattle.telling.specs.declared.Letters.{Letters}
+use Rattle.telling.specs.Row.{columnOf}
+use Rattle.telling.proofs.Columns.{written-plain}
+use Rattle.telling.proofs.Widths.{plain-short}
+use Rattle.telling.proofs.answer.Statement.{statement}
+use Rattle.telling.proofs.answer.Tie as tie
 
 -- ---- the places, by what was appended last
 

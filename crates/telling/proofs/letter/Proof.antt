@@ -1,12 +1,12 @@
--- `rows::letter` meets its contract, test by test.
+-- `letter` meets its contract, test by test.
 use mathlib.Core.Bool.{true, false}
 use mathlib.Core.Path.{_≡_}
 use borrow.Author.Needs.{needs}
 use borrow.Author.Tests.{not-true, not-false}
 use Rattle.output.proofs.Appending.{same-text}
-use Rattle.words.proofs.Columns.{as-it-is, first-number, second-number, no-number}
-use Rattle.words.proofs.rows.letter.Statement.{statement}
-use Rattle.words.proofs.rows.letter.Tie as tie
+use Rattle.telling.proofs.Columns.{as-it-is, first-number, second-number, no-number}
+use Rattle.telling.proofs.letter.Statement.{statement}
+use Rattle.telling.proofs.letter.Tie as tie
 
 answered : (c : tie.Else1) → c .before .before .args .l .answered ≡ true
 answered c = not-false _ (c .if1 .left)

@@ -13,12 +13,12 @@ use Rattle.output.specs.Appended.{Appended}
 use Rattle.output.specs.Digits.{printable, allFrom}
 use Rattle.output.proofs.Decimals.{decimal-length, decimal-printable, all-append}
 use Rattle.output.proofs.Appending.{same-text}
-use Rattle.words.specs.declared.Letters.{Letters}
-use Rattle.words.specs.declared.Asked.{Asked}
-use Rattle.words.specs.Row.{bar, letterA, letterB, afterByte, columnOf, letterText, written, Fine}
-use Rattle.words.specs.Row.{hasPlace, answering, place, placeText, answerText, saidText}
-use Rattle.words.proofs.Columns.{written-plain}
-use Rattle.words.specs.Told.{Told}
+use Rattle.telling.specs.declared.Letters.{Letters}
+use Rattle.telling.specs.declared.Asked.{Asked}
+use Rattle.telling.specs.Row.{bar, letterA, letterB, afterByte, columnOf, letterText, written, Fine}
+use Rattle.telling.specs.Row.{hasPlace, answering, place, placeText, answerText, saidText}
+use Rattle.telling.proofs.Columns.{written-plain}
+use Rattle.telling.specs.Told.{Told}
 
 -- ---- widths
 

@@ -1,12 +1,12 @@
--- `rows::start` meets its contract: what is left to pass from a byte on leads to the same column.
+-- `start` meets its contract: what is left to pass from a byte on leads to the same column.
 use mathlib.Core.Path.{_≡_, sym, ap, refl, _∙_}
 use Prim.Native.Nat.{_+_, _-_, _≤_}
 use native.Mathlib.Omega.{arith}
 use lib.ListN.{length, drop}
-use Rattle.words.specs.Row.{columnOf}
-use Rattle.words.proofs.Columns.{passing, past}
-use Rattle.words.proofs.rows.start.Statement.{statement}
-use Rattle.words.proofs.rows.start.Tie as tie
+use Rattle.telling.specs.Row.{columnOf}
+use Rattle.telling.proofs.Columns.{passing, past}
+use Rattle.telling.proofs.start.Statement.{statement}
+use Rattle.telling.proofs.start.Tie as tie
 
 abbrev Inv-loop : tie.InvT-loop
 Inv-loop k row left₀ i₀ left i = (i ≤ length row) × (columnOf left (drop i row) ≡ columnOf k row)

@@ -1,8 +1,8 @@
--- `rows::after_byte` meets its contract: a bar is one column less to pass.
+-- `after_byte` meets its contract: a bar is one column less to pass.
 use borrow.Author.Needs.{needs}
 use borrow.Author.Tests.{eq-eqb, ne-eqb}
-use Rattle.words.proofs.rows.after_byte.Statement.{statement}
-use Rattle.words.proofs.rows.after_byte.Tie as tie
+use Rattle.telling.proofs.after_byte.Statement.{statement}
+use Rattle.telling.proofs.after_byte.Tie as tie
 
 sub-result : tie.Need-sub-result
 sub-result c = search needs

@@ -1,15 +1,15 @@
--- `rows::said` appends what is asked of a row, which is printable and short.
+-- `said` appends what is asked of a row, which is printable and short.
 use mathlib.Core.Bool.{false}
 use mathlib.Core.Path.{refl}
 use native.Mathlib.Omega.{arith}
 use borrow.Author.Needs.{needs}
 use Rattle.output.proofs.Appending.{same-text}
-use Rattle.words.specs.declared.Letters.{Letters}
-use Rattle.words.specs.Row.{columnOf}
-use Rattle.words.proofs.Columns.{written-plain}
-use Rattle.words.proofs.Widths.{plain-short, told-whole, told-column}
-use Rattle.words.proofs.rows.said.Statement.{statement}
-use Rattle.words.proofs.rows.said.Tie as tie
+use Rattle.telling.specs.declared.Letters.{Letters}
+use Rattle.telling.specs.Row.{columnOf}
+use Rattle.telling.proofs.Columns.{written-plain}
+use Rattle.telling.proofs.Widths.{plain-short, told-whole, told-column}
+use Rattle.telling.proofs.said.Statement.{statement}
+use Rattle.telling.proofs.said.Tie as tie
 
 -- a column that is written as it is
 abbrev plain : Letters

@@ -12,9 +12,9 @@ use Rattle.protocol.specs.Codes.{codes}
 use Rattle.protocol.specs.Text.{decimal}
 use Rattle.output.specs.Appended.{Appended}
 use Rattle.output.proofs.Appending.{after, same-text}
-use Rattle.words.specs.declared.Letters.{Letters}
-use Rattle.words.specs.Row.{bar, letterA, letterB, afterByte, columnOf, letterText, written}
-use Rattle.words.specs.Row.{hasPlace, answering, place, placeText}
+use Rattle.telling.specs.declared.Letters.{Letters}
+use Rattle.telling.specs.Row.{bar, letterA, letterB, afterByte, columnOf, letterText, written}
+use Rattle.telling.specs.Row.{hasPlace, answering, place, placeText}
 
 -- the bytes from a place on are the byte there and those after it
 from : (row : List ℕ) (i : ℕ) → i < length row → drop i row ≡ getD row i 0 ∷ drop (i + 1) row

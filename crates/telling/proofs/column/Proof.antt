@@ -1,4 +1,4 @@
--- `rows::column` appends a column: after each turn the text so far, with what is still to be written, is the whole of it.
+-- `column` appends a column: after each turn the text so far, with what is still to be written, is the whole of it.
 use mathlib.Core.Path.{_≡_, refl, ap}
 use mathlib.Core.List.{[]}
 use Prim.Native.Nat.{_-_, _≤_}
@@ -6,10 +6,10 @@ use native.Mathlib.Omega.{arith}
 use borrow.Author.Needs.{needs}
 use lib.ListN.{length}
 use Rattle.output.proofs.Appending.{nothing}
-use Rattle.words.specs.Row.{columnOf, written}
-use Rattle.words.proofs.Columns.{Writing, left-none, left-bar, all-written, next-letter, room}
-use Rattle.words.proofs.rows.column.Statement.{statement}
-use Rattle.words.proofs.rows.column.Tie as tie
+use Rattle.telling.specs.Row.{columnOf, written}
+use Rattle.telling.proofs.Columns.{Writing, left-none, left-bar, all-written, next-letter, room}
+use Rattle.telling.proofs.column.Statement.{statement}
+use Rattle.telling.proofs.column.Tie as tie
 
 abbrev Inv-loop : tie.InvT-loop
 Inv-loop out₀ n k l row at₀ i₀ out at i = (i ≤ length row) × Writing out₀ n (written l (columnOf k row)) l row at i out
