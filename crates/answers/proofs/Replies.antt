@@ -12,9 +12,9 @@ use Rattle.protocol.specs.Text.{decimal}
 use Rattle.output.specs.Appended.{Appended}
 use Rattle.output.specs.Digits.{allFrom}
 use Rattle.output.proofs.Appending.{nothing, after, same-text}
-use Rattle.protocol.specs.declared.Line.{Line}
-use Rattle.protocol.specs.Phase.{GAP, MALFORMED}
-use Rattle.protocol.specs.Reader.{Reader, reader}
+use Rattle.reader.specs.declared.Line.{Line}
+use Rattle.grammar.specs.Phase.{GAP, MALFORMED}
+use Rattle.reader.specs.Reader.{Reader, reader}
 use Rattle.protocol.specs.Said.{Said, nothing as silence, malformedAt, request, said, partsIn}
 use Rattle.telling.specs.Row.{answerText}
 use Rattle.telling.specs.Told.{Told}

@@ -6,8 +6,8 @@ use Prim.Native.Nat.{ℕ, _+_, _≤_}
 use lib.Dec.{eqb}
 use lib.ListN.{take}
 use Rattle.model.specs.Question.{pick}
-use Rattle.protocol.specs.declared.Line.{Line}
-use Rattle.protocol.specs.Phase.{GAP, MALFORMED}
+use Rattle.reader.specs.declared.Line.{Line}
+use Rattle.grammar.specs.Phase.{GAP, MALFORMED}
 use Rattle.protocol.specs.Said.{Said, partsIn}
 use Rattle.output.specs.Appended.{Appended}
 use Rattle.output.specs.Digits.{printable}

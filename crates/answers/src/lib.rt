@@ -9,7 +9,7 @@ ghost use Rattle.model.specs.Table.{codeOf};
 ghost use Rattle.model.specs.Machine.{run};
 ghost use Rattle.answers.specs.Answers.{judged as judgedAnswer, unread as unreadAnswer, ranWith as printedAnswer, ran as ranAnswer};
 ghost use Rattle.answers.specs.Gives.{Gives, speaks, answerAt, Remarked, Ended, Replied};
-ghost use Rattle.protocol.specs.Reader.{reader};
+ghost use Rattle.reader.specs.Reader.{reader};
 ghost use Rattle.output.specs.Appended.{Appended};
 use calls::long;
 use calls::part;

@@ -1,12 +1,13 @@
 -- The examples hold: each line is read, and says what is stated.
 use mathlib.Core.Path.{refl}
-use Rattle.protocol.specs.Grammar.{names, forms, partAt, isWords, wordParts, longParts, begins, begun, named}
-use Rattle.protocol.specs.Phase.{blank, numeral, base, digitTo}
-use Rattle.protocol.specs.Reader.{malformed, bound, wanted, digitRead, numberRead, after, finished, wordTaken, countTaken, longTaken, taken}
-use Rattle.protocol.specs.Reader.{nameRead, firstRead, blankRead, act, step, reads, settled, atEnd}
+use Rattle.grammar.specs.Grammar.{names, forms, partAt, bound, wanted, isWords, wordParts, longParts, begins, begun, named}
+use Rattle.grammar.specs.Phase.{blank}
+use Rattle.numeral.specs.Digit.{numeral, base, digitTo}
+use Rattle.reader.specs.Reader.{malformed, digitRead, numberRead, after, finished, wordTaken, countTaken, longTaken, taken}
+use Rattle.reader.specs.Reader.{nameRead, firstRead, blankRead, act, step, reads, settled, atEnd}
 use Rattle.protocol.specs.Said.{said, start, lineSays}
 use Rattle.protocol.specs.Examples.{Examples}
-use Rattle.protocol.proofs.Scans.{reads-cut}
+use Rattle.protocol.proofs.Numbers.{reads-cut}
 
 pub examples : Examples
 unfolding lineSays said start atEnd settled reads step act firstRead nameRead blankRead numberRead digitRead taken longTaken countTaken

@@ -9,12 +9,13 @@ use lib.Dec.{ltb, eqb}
 use lib.ListN.{length, take, drop, set, length-set, replicate, length-replicate}
 use lib.Seq.{take-nil, take-suc-set, take-take}
 use borrow.Author.Tests.{ltb-true}
-use Rattle.protocol.specs.declared.Line.{Line}
-use Rattle.protocol.specs.Grammar.{pool, partsMost, longsMost, table, names, named, begun}
-use Rattle.protocol.specs.Phase.{EMPTY, NAME, GAP, ZERO, PREFIX, COMMENT, ex, hash, space, blank, numeral, base}
-use Rattle.protocol.specs.Reader.{Reader, reader, onLine, freshLine, past, lineOf, malformed, kind, boundOf, wanted, grown}
-use Rattle.protocol.specs.Reader.{digitRead, numberRead, after, finished, wordTaken, countTaken, longTaken, taken, lettersEnd}
-use Rattle.protocol.specs.Reader.{nameRead, firstRead, blankRead, act, step, reads, settled, atEnd}
+use Rattle.reader.specs.declared.Line.{Line}
+use Rattle.grammar.specs.Grammar.{pool, partsMost, longsMost, table, wanted, names, named, begun}
+use Rattle.grammar.specs.Phase.{EMPTY, NAME, GAP, ZERO, PREFIX, COMMENT, hash, space, blank}
+use Rattle.numeral.specs.Digit.{ex, numeral, base}
+use Rattle.reader.specs.Reader.{Reader, reader, onLine, freshLine, past, lineOf, malformed, kind, boundOf, grown}
+use Rattle.reader.specs.Reader.{digitRead, numberRead, after, finished, wordTaken, countTaken, longTaken, taken, lettersEnd}
+use Rattle.reader.specs.Reader.{nameRead, firstRead, blankRead, act, step, reads, settled, atEnd}
 use Rattle.protocol.specs.Said.{slice, cuts, partsOf, said, start, lineSays, PoolsForgotten}
 use Rattle.model.proofs.Logic.{byTest}
 

@@ -1,9 +1,5 @@
 -- Laws of the definitions, and the examples.
-pub mod Bytes
-pub mod Names
-pub mod Steps
-pub mod Scans
-pub mod Keeps
+pub mod Numbers
 pub mod Words
 pub mod Forgets
 pub mod Whole

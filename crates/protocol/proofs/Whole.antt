@@ -9,18 +9,19 @@ use lib.Dec.{ltb, eqb}
 use lib.ListN.{length, take, drop, getD, set, length-set, List·getD-eq-default}
 use lib.Seq.{drop-cons, take-suc-set}
 use borrow.Author.Tests.{ltb-true, ltb-false, eqb-true, eqb-false, lt-ltb, le-ltb, ne-eqb}
-use Rattle.protocol.specs.declared.Line.{Line}
+use Rattle.reader.specs.declared.Line.{Line}
 use Rattle.model.specs.Question.{pick}
-use Rattle.protocol.specs.Grammar.{pool, partsMost, longsMost, table, long, given, forms, rowOf, partAt, isWords, wordParts, longParts}
-use Rattle.protocol.specs.Grammar.{names, named, begun}
-use Rattle.protocol.specs.Phase.{EMPTY, NAME, GAP, ZERO, PREFIX, COMMENT, MALFORMED, ex, hash, space, blank, numeral, base}
-use Rattle.protocol.specs.Reader.{Reader, reader, onLine, freshLine, lineOf, malformed, kind, boundOf, wanted, grown, lettersEnd}
-use Rattle.protocol.specs.Reader.{digitRead, numberRead, after, finished, wordTaken, countTaken, longTaken, taken}
-use Rattle.protocol.specs.Reader.{nameRead, firstRead, blankRead, act, step, reads, settled, atEnd, Fine}
+use Rattle.grammar.specs.Grammar.{pool, partsMost, longsMost, table, long, given, forms, rowOf, partAt, isWords, wordParts, longParts}
+use Rattle.grammar.specs.Grammar.{wanted, names, named, begun}
+use Rattle.grammar.specs.Phase.{EMPTY, NAME, GAP, ZERO, PREFIX, COMMENT, MALFORMED, hash, space, blank}
+use Rattle.numeral.specs.Digit.{ex, numeral, base}
+use Rattle.reader.specs.Reader.{Reader, reader, onLine, freshLine, lineOf, malformed, kind, boundOf, grown, lettersEnd}
+use Rattle.reader.specs.Reader.{digitRead, numberRead, after, finished, wordTaken, countTaken, longTaken, taken}
+use Rattle.reader.specs.Reader.{nameRead, firstRead, blankRead, act, step, reads, settled, atEnd, Fine}
 use Rattle.protocol.specs.Said.{InOrder, Whole, RequestsWhole}
 use Rattle.model.proofs.Logic.{byTest}
-use Rattle.protocol.proofs.Steps.{wanted-word, wanted-count, wanted-other, bound-none}
-use Rattle.protocol.proofs.Keeps.{fine-fresh, fine-act, fine-step}
+use Rattle.grammar.proofs.Rows.{wanted-word, wanted-count, wanted-other, bound-none}
+use Rattle.reader.proofs.Keeps.{fine-fresh, fine-act, fine-step}
 
 -- ---- rows
 

@@ -2,7 +2,7 @@
 use mathlib.Core.Bool.{Bool, true, false}
 use mathlib.Core.Path.{_≡_, refl, sym, ap, _∙_}
 use mathlib.Core.List.{List, [], _∷_}
-use Prim.Native.Nat.{ℕ, suc, _+_, _*_, _-_, _<_, _≤_}
+use Prim.Native.Nat.{ℕ, suc, _+_, _-_, _<_, _≤_}
 use native.Mathlib.Omega.{arith}
 use native.Mathlib.Nat.{sub-self}
 use native.Mathlib.Numerals.{add-one}
@@ -10,65 +10,36 @@ use lib.Dec.{ltb, eqb}
 use lib.ListN.{length, drop, getD, set, length-drop, length-set, drop-of-length-le}
 use lib.Seq.{drop-drop, drop-cons}
 use borrow.Author.Tests.{ltb-true, eqb-true, ne-eqb}
-use Rattle.protocol.specs.declared.Line.{Line}
-use Rattle.protocol.specs.Grammar.{pool, wordEnd, longEnd}
-use Rattle.protocol.specs.Phase.{GAP, DIGITS, COMMENT, nought, ex, blank, numeral}
-use Rattle.protocol.specs.Reader.{Reader, reader, past, lineOf, shifted, kind, boundOf, step, reads, Fine}
-use Rattle.protocol.specs.Scan.{Scan, scanned, scan, scanDecimal, scanHex, scanNumber, inside, ended}
-use Rattle.protocol.specs.Ahead.{Goes, goneTo, inWords}
 use Rattle.model.proofs.Logic.{byTest}
-use Rattle.protocol.proofs.Scans.{none-found, scan-reads}
-use Rattle.protocol.proofs.Steps.{bound-word, word-on, taken-word, act-past}
-use Rattle.protocol.proofs.Keeps.{fine-at, fine-gone}
+use Rattle.grammar.specs.Grammar.{pool, wordEnd, longEnd}
+use Rattle.grammar.specs.Phase.{GAP, DIGITS, COMMENT}
+use Rattle.grammar.proofs.Rows.{bound-word}
+use Rattle.numeral.specs.Scan.{scanned, scanNumber}
+use Rattle.numeral.proofs.Scans.{found}
+use Rattle.reader.specs.declared.Line.{Line}
+use Rattle.reader.specs.Reader.{Reader, reader, past, lineOf, shifted, kind, boundOf, taken, step, reads, Fine}
+use Rattle.reader.proofs.Steps.{word-on, taken-word, act-past}
+use Rattle.reader.proofs.Keeps.{room-part, fine-inside, fine-taken, fine-at}
+use Rattle.protocol.specs.Ahead.{Goes, goneTo, inWords, inside, ended}
+use Rattle.protocol.proofs.Numbers.{scan-reads}
 
--- ---- what a scan finds lies in the bytes and is a word
+-- ---- what a line keeps
 
-scan-found : (xs : List ℕ) (radix o v j k w : ℕ) → scan radix o v j xs ≡ scanned k w → 0 < k → v < wordEnd → (k ≤ j + length xs) × (w < wordEnd)
-unfolding scan
-scan-found [] radix o v j k w e hk hv = absurd (none-found e hk)
-scan-found (b ∷ bs) radix o v j k w e hk hv =
-    byTest (ltb (numeral b) radix)
-    (λ d. byTest (ltb (v * radix + numeral b) wordEnd)
-    (λ q.
-    let (l, m) = scan-found bs radix o (v * radix + numeral b) (suc j) k w (rw (d, q) at e) hk (ltb-true _ _ q) in
-    (omega arith, m))
-    (λ q. absurd (none-found (rw (d, q) at e) hk)))
-    (λ d. byTest (blank b)
-    (λ q. byTest (eqb j o)
-    (λ z. absurd (none-found (rw (d, q, z) at e) hk))
-    (λ z.
-    let e' : scanned (suc j) v ≡ scanned k w = rw (d, q, z) at e in
-    let ek : suc j ≡ k = ap (λ (x : Scan). x .count) e' in
-    let ev : v ≡ w = ap (λ (x : Scan). x .value) e' in
-    (omega arith, omega arith)))
-    (λ q. absurd (none-found (rw (d, q) at e) hk)))
+pub fine-gone : (l x : Line) (k u f : ℕ) → x ≡ goneTo l k u f → Fine l → u ≤ pool → 0 < l .left → Fine x
+fine-gone l x k u f q F hu hl = rw q record {
+  used = hu;
+  part = F .part;
+  inside = λ e. F .inside hl;
+  number = λ g h. absurd (omega arith);
+  gap = λ e. refl;
+  counted = omega arith;
+}
 
-hex-found : (xs : List ℕ) (k w : ℕ) → scanHex xs ≡ scanned k w → 0 < k → (k ≤ length xs) × (w < wordEnd)
-unfolding scanHex
-hex-found [] k w e hk = absurd (none-found e hk)
-hex-found (a ∷ []) k w e hk = absurd (none-found e hk)
-hex-found (a ∷ b ∷ bs) k w e hk =
-    byTest (eqb a nought)
-    (λ q. byTest (eqb b ex)
-    (λ y. let (l, m) = scan-found bs 16 2 0 2 k w (rw (q, y) at e) hk (omega arith) in (omega arith, m))
-    (λ y. absurd (none-found (rw (q, y) at e) hk)))
-    (λ q. absurd (none-found (rw q at e) hk))
-
-number-found : (xs : List ℕ) (k w : ℕ) → scanNumber xs ≡ scanned k w → 0 < k → (k ≤ length xs) × (w < wordEnd)
-unfolding scanNumber
-number-found xs k w e hk =
-    byTest (eqb (scanDecimal xs .count) 0)
-    (λ q. hex-found xs k w (rw q at e) hk)
-    (λ q. let (l, m) = scan-found xs 10 0 0 0 k w (rw q at e) hk (omega arith) in (omega arith, m))
-
-pub record Found (bytes : List ℕ) (at k w : ℕ) : Type 0 where
-  pub within : at + k ≤ length bytes
-  pub word : w < wordEnd
-
-pub found : (bytes : List ℕ) (at k w : ℕ) → at ≤ length bytes → scanned k w ≡ scanNumber (drop at bytes) → 0 < k → Found bytes at k w
-found bytes at k w h s hk =
-    let (l, m) = number-found (drop at bytes) k w (sym s) hk in
-    record { within = omega (arith, length-drop at bytes); word = m }
+pub fine-ended : (r : Reader) (w j : ℕ) → Fine (r .line) → w < boundOf (r .line) → Fine (ended r w j .line)
+fine-ended r w j F h =
+    let p = room-part (r .line) w F h in
+    let G = fine-inside (r .line) DIGITS (past (r .line .at) j) (r .line .stop) w F (omega arith) (omega arith) p h in
+    fine-at (taken (inside r DIGITS w j) .line) (past (r .line .at) (j + 1)) (fine-taken (inside r DIGITS w j) G p) (omega arith)
 
 -- ---- words of a part
 
@@ -146,9 +117,9 @@ module _ (bytes : List ℕ) (l : Line) (words₀ words : List ℕ) (from at used
         small = omega arith;
       }
 
-  pub reached-goes : (x : Line) (e n : List ℕ) → Fine l → 0 < l .left → x ≡ goneTo l (at - from) used left
-      → Goes bytes (reader l words₀ e n) (reader x words e n) from at
-  reached-goes x e n F hl q = record {
+  pub reached-goes : (x : Line) (a : ℕ) (e n : List ℕ) → Fine l → 0 < l .left → (x ≡ goneTo l (at - from) used left) × (a ≡ at)
+      → Goes bytes (reader l words₀ e n) (reader x words e n) from a
+  reached-goes x a e n F hl (q, z) = rw z record {
     same = R .same e n ∙ ap (λ (y : Line). reads (reader y words e n) (drop at bytes)) (sym q);
     on = R .on;
     within = R .within;

@@ -2,13 +2,14 @@
 use mathlib.Core.Bool.{Bool, false}
 use mathlib.Core.List.{List}
 use mathlib.Core.Path.{_≡_}
-use Prim.Native.Nat.{ℕ, _≤_}
+use Prim.Native.Nat.{ℕ, _+_, _<_, _≤_}
 use lib.Dec.{ltb, eqb}
 use lib.ListN.{length, drop}
-use Rattle.protocol.specs.declared.Line.{Line}
 use Rattle.model.specs.Question.{pick}
-use Rattle.protocol.specs.Phase.{GAP}
-use Rattle.protocol.specs.Reader.{Reader, past, reads, Fine}
+use Rattle.grammar.specs.Phase.{GAP, DIGITS}
+use Rattle.numeral.specs.Scan.{scanned, scanNumber}
+use Rattle.reader.specs.declared.Line.{Line}
+use Rattle.reader.specs.Reader.{Reader, onLine, past, lineOf, shifted, boundOf, taken, reads, Fine}
 
 -- from a place of the bytes to another
 pub record Goes (bytes : List ℕ) (r s : Reader) (from to : ℕ) : Type 0 where
@@ -35,3 +36,19 @@ goneTo l k used left = record {
   marked = l .marked;
   stored = l .stored;
 }
+
+-- ---- a number in one piece
+
+-- one of so many bytes and a value stands at a place, and may be taken where the line stands
+pub record Here (bytes : List ℕ) (at : ℕ) (l : Line) (k v : ℕ) : Type 0 where
+  pub gap : l .phase ≡ GAP
+  pub read : scanned k v ≡ scanNumber (drop at bytes)
+  pub room : v < boundOf l
+
+-- in a number, with a phase and a value, so many bytes further on
+abbrev pub inside : Reader → ℕ → ℕ → ℕ → Reader
+inside r phase v j = onLine r (lineOf (r .line) phase (past (r .line .at) j) (r .line .stop) v)
+
+-- a number of a value is taken at the blank that ends it, so many bytes further on
+abbrev pub ended : Reader → ℕ → ℕ → Reader
+ended r v j = shifted (past (r .line .at) (j + 1)) (taken (inside r DIGITS v j))

@@ -3,9 +3,9 @@ use mathlib.Core.List.{List, [], _∷_, _++_}
 use mathlib.Core.Path.{_≡_}
 use Prim.Native.Nat.{ℕ}
 use Prim.Native.String.{String}
-use Rattle.protocol.specs.Codes.{codes}
-use Rattle.protocol.specs.Grammar.{CHECK, MEMORY, ENTRY, RUN, rowOf, wordParts, longParts}
-use Rattle.protocol.specs.Reader.{Reader, reads}
+use Rattle.grammar.specs.Codes.{codes}
+use Rattle.grammar.specs.Grammar.{CHECK, MEMORY, ENTRY, RUN, rowOf, wordParts, longParts}
+use Rattle.reader.specs.Reader.{Reader, reads}
 use Rattle.protocol.specs.Said.{Said, nothing, malformedAt, request, lineSays}
 
 abbrev pub Says : String → Said → Type 0

@@ -1,9 +1,4 @@
--- The line protocol: what a line says and how it is read, and the text of an answer.
-pub mod Codes
-pub mod Grammar
-pub mod Phase
-pub mod Reader
-pub mod Scan
+-- The line protocol: what is read ahead, what a line says, and the text of an answer.
 pub mod Ahead
 pub mod Said
 pub mod Examples

@@ -5,9 +5,9 @@ use Prim.Native.Nat.{ℕ, _-_, _≤_}
 use lib.Dec.{eqb}
 use lib.ListN.{length, take, drop, replicate}
 use Rattle.model.specs.Question.{pick}
-use Rattle.protocol.specs.Grammar.{pool, partsMost, longsMost, rowOf, wordParts, longParts}
-use Rattle.protocol.specs.Phase.{GAP, MALFORMED}
-use Rattle.protocol.specs.Reader.{Reader, reader, freshLine, reads, atEnd}
+use Rattle.grammar.specs.Grammar.{pool, partsMost, longsMost, rowOf, wordParts, longParts}
+use Rattle.grammar.specs.Phase.{GAP, MALFORMED}
+use Rattle.reader.specs.Reader.{Reader, reader, freshLine, reads, atEnd}
 
 -- nothing, for an empty line or a comment; malformed at a byte; a request: its row, its parts of words, its long numbers
 pub data Said : Type 0 where

@@ -6,7 +6,7 @@ use lib.ListN.{length}
 use Rattle.model.specs.Question.{pick}
 use Rattle.model.specs.declared.Verdict.{Verdict}
 use Rattle.model.specs.declared.RunAnswer.{RunAnswer}
-use Rattle.protocol.specs.Codes.{codes}
+use Rattle.grammar.specs.Codes.{codes}
 
 -- ---- numbers
 

@@ -11,9 +11,9 @@ use lib.ListN.{length, getD, take, drop, length-drop, drop-of-length-le}
 use lib.Seq.{drop-cons, drop-drop, getD-drop}
 use Rattle.model.specs.Question.{pick}
 use Rattle.model.proofs.Logic.{byTest, pick-true, pick-false}
-use Rattle.protocol.specs.declared.Line.{Line}
-use Rattle.protocol.specs.Reader.{Reader, reader, onLine, freshLine, past, reads, atEnd, Fine}
-use Rattle.protocol.proofs.Keeps.{fine-fresh}
+use Rattle.reader.specs.declared.Line.{Line}
+use Rattle.reader.specs.Reader.{Reader, reader, onLine, freshLine, past, reads, atEnd, Fine}
+use Rattle.reader.proofs.Keeps.{fine-fresh}
 use Rattle.protocol.specs.Said.{said}
 use Rattle.service.specs.declared.Place.{Place}
 use Rattle.answers.specs.declared.Reply.{Reply}

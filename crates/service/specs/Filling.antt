@@ -8,8 +8,8 @@ use denote.Triple.Both.{Both}
 use lib.ListN.{length, take, drop}
 use Rattle.output.specs.Appended.{Appended}
 use Rattle.output.specs.Digits.{printable}
-use Rattle.protocol.specs.declared.Line.{Line}
-use Rattle.protocol.specs.Reader.{reader, Fine}
+use Rattle.reader.specs.declared.Line.{Line}
+use Rattle.reader.specs.Reader.{reader, Fine}
 use Rattle.answers.specs.declared.Style.{Style}
 use Rattle.service.specs.declared.Place.{Place}
 use Rattle.service.specs.declared.Filled.{Filled}

@@ -4,7 +4,7 @@ use mathlib.Core.List.{List, [], _∷_, _++_}
 use Prim.Native.Nat.{ℕ, suc}
 use lib.Dec.{eqb}
 use Rattle.model.specs.Question.{pick}
-use Rattle.protocol.specs.Reader.{Reader, reader, onLine, freshLine, past, step, reads, atEnd}
+use Rattle.reader.specs.Reader.{Reader, reader, onLine, freshLine, past, step, reads, atEnd}
 use Rattle.protocol.specs.Said.{Said, said}
 use Rattle.answers.specs.Answers.{lineText, refused}
 

@@ -4,7 +4,7 @@ ghost use mathlib.Core.Bool.{true};
 ghost use Prim.Native.Nat.{_+_, _<_, _≤_};
 ghost use lib.ListN.{length, take, drop};
 ghost use Rattle.model.specs.Question.{pick};
-ghost use Rattle.protocol.specs.Reader.{Fine, freshLine, past};
+ghost use Rattle.reader.specs.Reader.{Fine, freshLine, past};
 ghost use Rattle.service.specs.Served.{toEnd};
 ghost use Rattle.service.specs.Filling.{placed, Ready, Answered, Finished, standingIn, standingOut, Onward, Fills};
 use crate::Filled;

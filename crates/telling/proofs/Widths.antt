@@ -7,7 +7,7 @@ use native.Mathlib.Omega.{arith}
 use lib.Dec.{leb, eqb}
 use lib.ListN.{length, length-append}
 use Rattle.model.specs.Question.{pick}
-use Rattle.protocol.specs.Codes.{codes}
+use Rattle.grammar.specs.Codes.{codes}
 use Rattle.protocol.specs.Text.{decimal}
 use Rattle.output.specs.Appended.{Appended}
 use Rattle.output.specs.Digits.{printable, allFrom}

@@ -6,7 +6,7 @@ use Prim.Native.Nat.{ℕ, zero, suc, _-_, _≤_}
 use lib.Dec.{eqb}
 use lib.ListN.{length}
 use Rattle.model.specs.Question.{pick, numberOf, q16, q17}
-use Rattle.protocol.specs.Codes.{codes}
+use Rattle.grammar.specs.Codes.{codes}
 use Rattle.protocol.specs.Text.{decimal}
 use Rattle.output.specs.Digits.{printable}
 use Rattle.telling.specs.declared.Letters.{Letters}

@@ -6,7 +6,7 @@ use Prim.Native.String.{String}
 use lib.Dec.{ltb, eqb}
 use lib.ListN.{length, getD}
 use Rattle.model.specs.Question.{pick}
-use Rattle.protocol.specs.Codes.{codes}
+use Rattle.grammar.specs.Codes.{codes}
 use Rattle.terminal.specs.declared.arguments.Asked.{Asked}
 
 -- ---- wishes

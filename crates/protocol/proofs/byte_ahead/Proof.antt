@@ -1,8 +1,8 @@
 -- `protocol::byte_ahead` meets its contract.
 use native.Mathlib.Omega.{arith}
 use denote.Ref.{now}
-use Rattle.protocol.specs.Reader.{reader}
-use Rattle.protocol.proofs.Keeps.{fine-step, fine-by}
+use Rattle.reader.specs.Reader.{reader}
+use Rattle.reader.proofs.Keeps.{fine-step, fine-by}
 use Rattle.protocol.proofs.Words.{some-byte}
 use borrow.Author.Needs.{needs}
 use Rattle.protocol.proofs.byte_ahead.Statement.{statement}

@@ -1,5 +1,5 @@
 -- `protocol::end` meets its contract.
-use Rattle.protocol.proofs.Steps.{end-made}
+use Rattle.reader.proofs.Steps.{end-made}
 use borrow.Author.Needs.{needs}
 use Rattle.protocol.proofs.end.Statement.{statement}
 use Rattle.protocol.proofs.end.Tie as tie

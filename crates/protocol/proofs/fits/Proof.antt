@@ -1,7 +1,7 @@
 -- `protocol::fits` meets its contract.
 use mathlib.Core.Path.{sym, _∙_}
 use borrow.Author.Tests.{not-true, not-false}
-use Rattle.protocol.proofs.Steps.{fits-most, fits-none}
+use Rattle.reader.proofs.Steps.{fits-most, fits-none}
 use borrow.Author.Needs.{needs}
 use Rattle.protocol.proofs.fits.Statement.{statement}
 use Rattle.protocol.proofs.fits.Tie as tie

@@ -3,8 +3,9 @@ use mathlib.Core.Path.{_≡_}
 use Prim.Native.Nat.{_<_}
 use native.Mathlib.Omega.{arith}
 use denote.Ref.{now}
-use Rattle.protocol.specs.Phase.{GAP}
-use Rattle.protocol.proofs.Words.{Found, found, in-words, Reached, reached-none, reached-more, reached-goes}
+use Rattle.grammar.specs.Phase.{GAP}
+use Rattle.numeral.proofs.Scans.{Found, found}
+use Rattle.protocol.proofs.Words.{in-words, Reached, reached-none, reached-more, reached-goes}
 use borrow.Author.Needs.{needs}
 use Rattle.protocol.proofs.part_words.Statement.{statement}
 use Rattle.protocol.proofs.part_words.Tie as tie
@@ -35,27 +36,21 @@ loop-holds c = let s = c .before in reached-none _ _ _ _ (s .pre .0) (stands s .
 token-requires : tie.Need-token-requires Inv-loop μ-loop
 token-requires c κs = search needs
 
-sub-gone : tie.Need-sub-gone Inv-loop μ-loop
-sub-gone c = omega arith
-
 gone-requires : tie.Need-gone-requires Inv-loop μ-loop
-gone-requires c κs = search needs
+gone-requires c κs = omega arith
 
 returns : tie.Need-returns Inv-loop μ-loop
 returns c =
     let a = c .before .before .before .before in
-    λ e n. reached-goes _ _ _ _ _ _ _ _ (a .loop .inv) _ e n (start a .pre .0) (omega (arith, stands (start a))) (c .gone .ensures)
-
-sub-gone-2 : tie.Need-sub-gone-2 Inv-loop μ-loop
-sub-gone-2 c = omega arith
+    λ e n. reached-goes _ _ _ _ _ _ _ _ (a .loop .inv) _ _ e n (start a .pre .0) (omega (arith, stands (start a))) (c .gone .ensures)
 
 gone-requires-2 : tie.Need-gone-requires-2 Inv-loop μ-loop
-gone-requires-2 c κs = search needs
+gone-requires-2 c κs = omega arith
 
 returns-2 : tie.Need-returns-2 Inv-loop μ-loop
 returns-2 c =
     let a = c .before .before .before .before .before in
-    λ e n. reached-goes _ _ _ _ _ _ _ _ (a .loop .inv) _ e n (start a .pre .0) (omega (arith, stands (start a))) (c .gone2 .ensures)
+    λ e n. reached-goes _ _ _ _ _ _ _ _ (a .loop .inv) _ _ e n (start a .pre .0) (omega (arith, stands (start a))) (c .gone2 .ensures)
 
 cast-words : tie.Need-cast-words Inv-loop μ-loop
 cast-words c = omega (arith, lies (c .before .before))
@@ -84,16 +79,13 @@ loop-again c =
     let a = t .before .before in
     reached-more _ _ _ _ _ _ _ _ (a .loop .inv) _ _ (omega arith) (omega arith) (omega arith) (t .token .ensures)
 
-sub-gone-3 : tie.Need-sub-gone-3 Inv-loop μ-loop
-sub-gone-3 c = omega arith
-
 gone-requires-3 : tie.Need-gone-requires-3 Inv-loop μ-loop
-gone-requires-3 c κs = search needs
+gone-requires-3 c κs = omega arith
 
 returns-3 : tie.Need-returns-3 Inv-loop μ-loop
 returns-3 c =
     let a = c .before .before in
-    λ e n. reached-goes _ _ _ _ _ _ _ _ (a .loop .inv) _ e n (start a .pre .0) (omega (arith, stands (start a))) (c .gone3 .ensures)
+    λ e n. reached-goes _ _ _ _ _ _ _ _ (a .loop .inv) _ _ e n (start a .pre .0) (omega (arith, stands (start a))) (c .gone3 .ensures)
 
 pub part-words-spec : {M : Type 1} → statement M
 part-words-spec =
@@ -103,10 +95,8 @@ part-words-spec =
     μ-loop
     loop-holds
     token-requires
-    sub-gone
     gone-requires
     returns
-    sub-gone-2
     gone-requires-2
     returns-2
     cast-words
@@ -117,6 +107,5 @@ part-words-spec =
     add-at
     loop-less
     loop-again
-    sub-gone-3
     gone-requires-3
     returns-3)

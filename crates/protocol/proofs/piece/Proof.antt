@@ -3,7 +3,7 @@ use mathlib.Core.Path.{refl, sym, _∙_}
 use Prim.Native.Nat.{_-_}
 use native.Mathlib.Omega.{arith}
 use lib.ListN.{length}
-use Rattle.protocol.specs.Reader.{reader}
+use Rattle.reader.specs.Reader.{reader}
 use Rattle.protocol.specs.Ahead.{Goes}
 use Rattle.protocol.proofs.Words.{goes-on, reads-past}
 use Rattle.protocol.proofs.piece.Statement.{statement}

@@ -1,7 +1,8 @@
 -- `protocol::settle` meets its contract.
 use mathlib.Core.Path.{_≡_, sym, ap, _∙_}
-use Rattle.protocol.specs.Reader.{wanted, kind}
-use Rattle.protocol.proofs.Steps.{settled-other, settled-short, settled-whole}
+use Rattle.grammar.specs.Grammar.{wanted}
+use Rattle.reader.specs.Reader.{kind}
+use Rattle.reader.proofs.Steps.{settled-other, settled-short, settled-whole}
 use borrow.Author.Needs.{needs}
 use Rattle.protocol.proofs.settle.Statement.{statement}
 use Rattle.protocol.proofs.settle.Tie as tie

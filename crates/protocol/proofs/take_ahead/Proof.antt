@@ -1,7 +1,7 @@
 -- `protocol::take_ahead` meets its contract.
 use native.Mathlib.Omega.{arith}
 use denote.Ref.{now}
-use Rattle.protocol.proofs.Scans.{ended-made}
+use Rattle.protocol.proofs.Numbers.{ended-made}
 use borrow.Author.Needs.{needs}
 use Rattle.protocol.proofs.take_ahead.Statement.{statement}
 use Rattle.protocol.proofs.take_ahead.Tie as tie

@@ -2,7 +2,7 @@
 use Prim.Native.Nat.{_-_, _≤_}
 use native.Mathlib.Omega.{arith}
 use lib.ListN.{length, drop}
-use Rattle.protocol.specs.Reader.{Fine}
+use Rattle.reader.specs.Reader.{Fine}
 use Rattle.service.specs.Filling.{standingAt, Same}
 use Rattle.service.proofs.Along.{same-still, same-then}
 use borrow.Author.Needs.{needs}

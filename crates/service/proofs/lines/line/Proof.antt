@@ -3,7 +3,7 @@ use mathlib.Core.List.{List}
 use Prim.Native.Nat.{ℕ, _≤_}
 use native.Mathlib.Omega.{arith}
 use denote.Ref.{now}
-use Rattle.protocol.specs.Reader.{Fine}
+use Rattle.reader.specs.Reader.{Fine}
 use Rattle.service.proofs.Along.{same-then, same-over, place-along, fine-along, held-along, fine-next}
 use borrow.Author.Needs.{needs}
 use Rattle.service.proofs.lines.line.Statement.{statement}

@@ -1,0 +1,4 @@
+-- Laws of the definitions.
+pub mod Blanks
+pub mod Names
+pub mod Rows
