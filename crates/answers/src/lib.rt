@@ -2,6 +2,7 @@
 ghost use mathlib.Core.Path.{_≡_};
 ghost use Prim.Native.Nat.{_+_, _≤_};
 ghost use lib.ListN.{length, take};
+ghost use Rattle.grammar.specs.Grammar.{pool};
 ghost use Rattle.protocol.specs.Said.{said, partsIn};
 ghost use Rattle.calls.specs.Requests.{runOf, readyOf};
 ghost use Rattle.answers.specs.Answers.{requestAnswer, lineNumber, refusalRow, runRow};
@@ -10,7 +11,7 @@ ghost use Rattle.model.specs.Machine.{run};
 ghost use Rattle.answers.specs.Answers.{judged as judgedAnswer, unread as unreadAnswer, ranWith as printedAnswer, ran as ranAnswer};
 ghost use Rattle.answers.specs.Gives.{Gives, speaks, answerAt, Remarked, Ended, Replied};
 ghost use Rattle.reader.specs.Reader.{reader};
-ghost use Rattle.output.specs.Appended.{Appended};
+ghost use Rattle.output.specs.Appended.{buffer, Appended};
 use calls::long;
 use calls::part;
 use model::RunAnswer;
@@ -40,7 +41,7 @@ pub struct Reply {
     pub refused: bool,
 }
 
-fn judged(out: &mut [u8; 2097152], n: usize, v: Verdict) -> Given
+fn judged(out: &mut [u8; output::BUFFER], n: usize, v: Verdict) -> Given
     requires { ⌜ n ≤ 65600 ⌝ }
     ensures { λ r. ⌜ Gives (now (out .entry)) n (judgedAnswer v) r (now (out .exit)) ⌝ }
 {
@@ -54,7 +55,7 @@ fn judged(out: &mut [u8; 2097152], n: usize, v: Verdict) -> Given
 }
 
 // A line that is no request, malformed at a place.
-fn unread(out: &mut [u8; 2097152], n: usize, place: u64) -> Given
+fn unread(out: &mut [u8; output::BUFFER], n: usize, place: u64) -> Given
     requires { ⌜ n ≤ 65600 ⌝ }
     ensures { λ r. ⌜ Gives (now (out .entry)) n (unreadAnswer place) r (now (out .exit)) ⌝ }
 {
@@ -77,8 +78,8 @@ fn run_row(number: u32) -> u32
     number
 }
 
-fn printed(out: &mut [u8; 2097152], n: usize, r: RunAnswer, memory: &[u32]) -> Given
-    requires { ⌜ (n ≤ 65600) × (length (now memory) ≤ 135168) ⌝ }
+fn printed(out: &mut [u8; output::BUFFER], n: usize, r: RunAnswer, memory: &[u32]) -> Given
+    requires { ⌜ (n ≤ 65600) × (length (now memory) ≤ pool) ⌝ }
     ensures { λ g. ⌜ Gives (now (out .entry)) n (printedAnswer r (now (memory .entry))) g (now (out .exit)) ⌝ }
 {
     let held = output::run_answer(out, n, r, memory);
@@ -98,10 +99,10 @@ fn ran(
     row: &[u32],
     budget: u64,
     memory: &mut [u32],
-    out: &mut [u8; 2097152],
+    out: &mut [u8; output::BUFFER],
     n: usize,
 ) -> Given
-    requires { ⌜ (n ≤ 65600) × (length (now held) ≡ length (now memory)) × (length (now held) ≤ 135168) ⌝ }
+    requires { ⌜ (n ≤ 65600) × (length (now held) ≡ length (now memory)) × (length (now held) ≤ pool) ⌝ }
     ensures { λ g. ⌜ Gives (now (out .entry)) n
         (ranAnswer (run (codeOf (now (blocks .entry)) (now (code .entry))) (now (held .entry)) (readyOf (now (row .entry))) budget)) g (now (out .exit)) ⌝ }
 {
@@ -116,10 +117,10 @@ fn run_request(
     marked: usize,
     budget: u64,
     space: &mut [u32],
-    out: &mut [u8; 2097152],
+    out: &mut [u8; output::BUFFER],
     n: usize,
 ) -> Given
-    requires { ⌜ (n ≤ 65600) × (length (now words) ≤ 135168) × (length (now words) ≤ length (now space)) ⌝ }
+    requires { ⌜ (n ≤ 65600) × (length (now words) ≤ pool) × (length (now words) ≤ length (now space)) ⌝ }
     ensures { λ g. ⌜ Gives (now (out .entry)) n (ranAnswer (runOf (partsIn (now (words .entry)) (now (ends .entry)) marked) budget)) g (now (out .exit)) ⌝ }
 {
     let blocks = part(words, ends, marked, 0);
@@ -135,12 +136,12 @@ fn request(
     l: Line,
     words: &[u32],
     ends: &[usize],
-    longs: &[u64; 1],
+    longs: &[u64; protocol::LONGS_MOST],
     space: &mut [u32],
-    out: &mut [u8; 2097152],
+    out: &mut [u8; output::BUFFER],
     n: usize,
 ) -> Given
-    requires { ⌜ (n ≤ 65600) × (length (now words) ≤ 135168) × (length (now words) ≤ length (now space)) ⌝ }
+    requires { ⌜ (n ≤ 65600) × (length (now words) ≤ pool) × (length (now words) ≤ length (now space)) ⌝ }
     ensures { λ g. ⌜ Gives (now (out .entry)) n
         (requestAnswer (l .form) (partsIn (now (words .entry)) (now (ends .entry)) (l .marked)) (take (l .stored) (now (longs .entry)))) g (now (out .exit)) ⌝ }
 {
@@ -164,12 +165,12 @@ fn answered(
     l: Line,
     words: &[u32],
     ends: &[usize],
-    longs: &[u64; 1],
+    longs: &[u64; protocol::LONGS_MOST],
     space: &mut [u32],
-    out: &mut [u8; 2097152],
+    out: &mut [u8; output::BUFFER],
     n: usize,
 ) -> Given
-    requires { ⌜ (n ≤ 65600) × (length (now words) ≤ 135168) × (length (now words) ≤ length (now space)) ⌝ }
+    requires { ⌜ (n ≤ 65600) × (length (now words) ≤ pool) × (length (now words) ≤ length (now space)) ⌝ }
     ensures { λ g. ⌜ Gives (now (out .entry)) n (answerAt l (now (words .entry)) (now (ends .entry)) (now (longs .entry))) g (now (out .exit)) ⌝ }
 {
     if l.phase == protocol::MALFORMED {
@@ -179,7 +180,7 @@ fn answered(
 }
 
 // The number of the line that is answered, and a blank, where it is asked for.
-fn numbered(out: &mut [u8; 2097152], n: usize, lined: bool, count: u64) -> usize
+fn numbered(out: &mut [u8; output::BUFFER], n: usize, lined: bool, count: u64) -> usize
     requires { ⌜ n ≤ 65536 ⌝ }
     ensures text { λ r. ⌜ Appended (now (out .entry)) n (lineNumber lined count) r (now (out .exit)) ⌝ }
     ensures room { λ r. ⌜ r ≤ n + 21 ⌝ }
@@ -192,8 +193,8 @@ fn numbered(out: &mut [u8; 2097152], n: usize, lined: bool, count: u64) -> usize
 }
 
 // What an answer means, where words are asked for.
-fn remark(out: &mut [u8; 2097152], worded: bool, g: Given) -> usize
-    requires { ⌜ g .held + 16384 ≤ 2097152 ⌝ }
+fn remark(out: &mut [u8; output::BUFFER], worded: bool, g: Given) -> usize
+    requires { ⌜ g .held + 16384 ≤ buffer ⌝ }
     ensures { λ r. ⌜ Remarked worded g (now (out .entry)) r (now (out .exit)) ⌝ }
 {
     if !worded {
@@ -216,7 +217,7 @@ fn is_refusal(row: u32) -> bool
 }
 
 // An answer and its line's end.
-fn ended(out: &mut [u8; 2097152], worded: bool, g: Given) -> Reply
+fn ended(out: &mut [u8; output::BUFFER], worded: bool, g: Given) -> Reply
     requires { ⌜ g .held ≤ 2000000 ⌝ }
     ensures { λ r. ⌜ Ended worded g (now (out .entry)) r (now (out .exit)) ⌝ }
 {
@@ -245,12 +246,12 @@ pub fn answer(
     s: Style,
     words: &[u32],
     ends: &[usize],
-    longs: &[u64; 1],
+    longs: &[u64; protocol::LONGS_MOST],
     space: &mut [u32],
-    out: &mut [u8; 2097152],
+    out: &mut [u8; output::BUFFER],
     n: usize,
 ) -> Reply
-    requires { ⌜ (n ≤ 65536) × (length (now words) ≤ 135168) × (length (now words) ≤ length (now space)) ⌝ }
+    requires { ⌜ (n ≤ 65536) × (length (now words) ≤ pool) × (length (now words) ≤ length (now space)) ⌝ }
     ensures { λ r. ⌜ Replied s count
         (said (reader l (now (words .entry)) (now (ends .entry)) (now (longs .entry)))) (now (out .entry)) n r (now (out .exit)) ⌝ }
 {

@@ -80,7 +80,7 @@ pub fn registers(row: &[u32]) -> [u32; 8]
 }
 
 // The long number of a request, 0 where it has none.
-pub fn long(longs: &[u64; 1], stored: usize) -> u64
+pub fn long(longs: &[u64; protocol::LONGS_MOST], stored: usize) -> u64
     ensures { λ r. ⌜ r ≡ getD (take stored (now (longs .entry))) 0 0 ⌝ }
 {
     if stored == 0 {

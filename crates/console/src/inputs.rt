@@ -27,7 +27,7 @@ pub struct Turn {
 }
 
 // What is held is written, and there is no more of it.
-fn written(p: Place, out: &[u8; 2097152], end: u32) -> Turn
+fn written(p: Place, out: &[u8; output::BUFFER], end: u32) -> Turn
     ensures { λ r. ⌜ r .place ≡ placed (p .line) (p .count) (p .refused) 0 ⌝ }
 {
     let emptied = service::written(p);
@@ -48,11 +48,11 @@ fn answered(
     bytes: &[u8],
     p: Place,
     s: Style,
-    words: &mut [u32; 135168],
-    ends: &mut [usize; 7],
-    longs: &mut [u64; 1],
-    space: &mut [u32; 135168],
-    out: &mut [u8; 2097152],
+    words: &mut [u32; protocol::POOL],
+    ends: &mut [usize; protocol::PARTS_MOST],
+    longs: &mut [u64; protocol::LONGS_MOST],
+    space: &mut [u32; protocol::POOL],
+    out: &mut [u8; output::BUFFER],
 ) -> Turn
     requires { ⌜ Ready p ⌝ }
     ensures { λ r. ⌜ Ready (r .place) ⌝ }
@@ -80,11 +80,11 @@ fn one_read(
     from: i32,
     p: Place,
     s: Style,
-    words: &mut [u32; 135168],
-    ends: &mut [usize; 7],
-    longs: &mut [u64; 1],
-    space: &mut [u32; 135168],
-    out: &mut [u8; 2097152],
+    words: &mut [u32; protocol::POOL],
+    ends: &mut [usize; protocol::PARTS_MOST],
+    longs: &mut [u64; protocol::LONGS_MOST],
+    space: &mut [u32; protocol::POOL],
+    out: &mut [u8; output::BUFFER],
 ) -> Turn
     requires { ⌜ Ready p ⌝ }
     ensures { λ r. ⌜ Ready (r .place) ⌝ }
@@ -110,11 +110,11 @@ fn input(
     from: i32,
     p: Place,
     s: Style,
-    words: &mut [u32; 135168],
-    ends: &mut [usize; 7],
-    longs: &mut [u64; 1],
-    space: &mut [u32; 135168],
-    out: &mut [u8; 2097152],
+    words: &mut [u32; protocol::POOL],
+    ends: &mut [usize; protocol::PARTS_MOST],
+    longs: &mut [u64; protocol::LONGS_MOST],
+    space: &mut [u32; protocol::POOL],
+    out: &mut [u8; output::BUFFER],
 ) -> Turn
     requires { ⌜ Ready p ⌝ }
 {
@@ -186,11 +186,11 @@ fn named(
     name: &[u8],
     e: Ended,
     s: Style,
-    words: &mut [u32; 135168],
-    ends: &mut [usize; 7],
-    longs: &mut [u64; 1],
-    space: &mut [u32; 135168],
-    out: &mut [u8; 2097152],
+    words: &mut [u32; protocol::POOL],
+    ends: &mut [usize; protocol::PARTS_MOST],
+    longs: &mut [u64; protocol::LONGS_MOST],
+    space: &mut [u32; protocol::POOL],
+    out: &mut [u8; output::BUFFER],
 ) -> Ended {
     let from = opened(name);
     if from < 0 {
@@ -224,11 +224,11 @@ fn argument(
     i: usize,
     g: Listed,
     s: Style,
-    words: &mut [u32; 135168],
-    ends: &mut [usize; 7],
-    longs: &mut [u64; 1],
-    space: &mut [u32; 135168],
-    out: &mut [u8; 2097152],
+    words: &mut [u32; protocol::POOL],
+    ends: &mut [usize; protocol::PARTS_MOST],
+    longs: &mut [u64; protocol::LONGS_MOST],
+    space: &mut [u32; protocol::POOL],
+    out: &mut [u8; output::BUFFER],
 ) -> Listed {
     let mut text = [0u8; arguments::LONGEST];
     let n = os::arg(i, &mut text);
@@ -249,11 +249,11 @@ fn argument(
 // The inputs that arguments name, in their order, up to the first that fails.
 fn all_named(
     s: Style,
-    words: &mut [u32; 135168],
-    ends: &mut [usize; 7],
-    longs: &mut [u64; 1],
-    space: &mut [u32; 135168],
-    out: &mut [u8; 2097152],
+    words: &mut [u32; protocol::POOL],
+    ends: &mut [usize; protocol::PARTS_MOST],
+    longs: &mut [u64; protocol::LONGS_MOST],
+    space: &mut [u32; protocol::POOL],
+    out: &mut [u8; output::BUFFER],
 ) -> Ended {
     let none = Ended {
         refused: false,
@@ -278,11 +278,11 @@ fn all_named(
 
 // Answers all inputs: those that are named, or standard input where none is.
 pub fn all(s: Style, any_named: bool) -> Ended {
-    let mut words = [0u32; 135168];
-    let mut ends = [0usize; 7];
-    let mut longs = [0u64; 1];
-    let mut space = [0u32; 135168];
-    let mut out = [0u8; 2097152];
+    let mut words = [0u32; protocol::POOL];
+    let mut ends = [0usize; protocol::PARTS_MOST];
+    let mut longs = [0u64; protocol::LONGS_MOST];
+    let mut space = [0u32; protocol::POOL];
+    let mut out = [0u8; output::BUFFER];
     if any_named {
         return all_named(s, &mut words, &mut ends, &mut longs, &mut space, &mut out);
     }

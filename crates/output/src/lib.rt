@@ -1,15 +1,17 @@
-// What the program answers, put into a buffer after what the buffer holds already. Nothing is written out here. The buffer has 2 MiB: an answer
-// has at most 135,168 words of ten digits, each after a blank, and some hundred bytes more.
+// What the program answers, put into a buffer after what the buffer holds already. Nothing is written out here.
 ghost use mathlib.Core.Path.{_≡_};
 ghost use mathlib.Core.List.{[], _∷_};
 ghost use Prim.Native.Nat.{_+_, _*_, _≤_};
 ghost use lib.ListN.{length};
 ghost use Rattle.protocol.specs.Text.{decimal, fields, verdictText, runText, malformedText};
 ghost use Rattle.protocol.specs.Text.{field as fieldText};
-ghost use Rattle.output.specs.Appended.{Appended};
+ghost use Rattle.output.specs.Appended.{buffer, Appended};
 ghost use Rattle.output.specs.Digits.{lastDigits};
 use model::RunAnswer;
 use model::Verdict;
+
+// The bytes of a buffer: an answer has at most 135,168 words of ten digits, each after a blank, and some hundred bytes more.
+pub const BUFFER: usize = 2097152;
 
 // ---- bytes
 
@@ -20,8 +22,8 @@ fn store(out: &mut [u8], n: usize, byte: u8)
     out[n] = byte;
 }
 
-pub fn put(out: &mut [u8; 2097152], n: usize, byte: u8) -> usize
-    requires { ⌜ n + 1 ≤ 2097152 ⌝ }
+pub fn put(out: &mut [u8; BUFFER], n: usize, byte: u8) -> usize
+    requires { ⌜ n + 1 ≤ buffer ⌝ }
     ensures { λ r. ⌜ Appended (now (out .entry)) n (byte ∷ []) r (now (out .exit)) ⌝ }
 {
     store(out, n, byte);
@@ -39,16 +41,16 @@ fn copy(out: &mut [u8], n: usize, bytes: &[u8])
     }
 }
 
-pub fn text(out: &mut [u8; 2097152], n: usize, bytes: &[u8]) -> usize
-    requires { ⌜ n + length (now bytes) ≤ 2097152 ⌝ }
+pub fn text(out: &mut [u8; BUFFER], n: usize, bytes: &[u8]) -> usize
+    requires { ⌜ n + length (now bytes) ≤ buffer ⌝ }
     ensures { λ r. ⌜ Appended (now (out .entry)) n (now (bytes .entry)) r (now (out .exit)) ⌝ }
 {
     copy(out, n, bytes);
     n + bytes.len()
 }
 
-pub fn line_end(out: &mut [u8; 2097152], n: usize) -> usize
-    requires { ⌜ n + 1 ≤ 2097152 ⌝ }
+pub fn line_end(out: &mut [u8; BUFFER], n: usize) -> usize
+    requires { ⌜ n + 1 ≤ buffer ⌝ }
     ensures { λ r. ⌜ Appended (now (out .entry)) n (10 ∷ []) r (now (out .exit)) ⌝ }
 {
     put(out, n, b'\n')
@@ -87,8 +89,8 @@ fn fill(out: &mut [u8], n: usize, k: usize, value: u64)
 }
 
 // A number where there is room for just its digits.
-fn digits(out: &mut [u8; 2097152], n: usize, value: u64) -> usize
-    requires { ⌜ n + length (decimal value) ≤ 2097152 ⌝ }
+fn digits(out: &mut [u8; BUFFER], n: usize, value: u64) -> usize
+    requires { ⌜ n + length (decimal value) ≤ buffer ⌝ }
     ensures { λ r. ⌜ Appended (now (out .entry)) n (decimal value) r (now (out .exit)) ⌝ }
 {
     let k = places(value);
@@ -96,8 +98,8 @@ fn digits(out: &mut [u8; 2097152], n: usize, value: u64) -> usize
     n + k
 }
 
-pub fn number(out: &mut [u8; 2097152], n: usize, value: u64) -> usize
-    requires { ⌜ n + 20 ≤ 2097152 ⌝ }
+pub fn number(out: &mut [u8; BUFFER], n: usize, value: u64) -> usize
+    requires { ⌜ n + 20 ≤ buffer ⌝ }
     ensures { λ r. ⌜ Appended (now (out .entry)) n (decimal value) r (now (out .exit)) ⌝ }
     ensures { λ r. ⌜ r ≤ n + 20 ⌝ }
 {
@@ -105,8 +107,8 @@ pub fn number(out: &mut [u8; 2097152], n: usize, value: u64) -> usize
 }
 
 // A blank and a number.
-pub fn field(out: &mut [u8; 2097152], n: usize, value: u64) -> usize
-    requires { ⌜ n + 21 ≤ 2097152 ⌝ }
+pub fn field(out: &mut [u8; BUFFER], n: usize, value: u64) -> usize
+    requires { ⌜ n + 21 ≤ buffer ⌝ }
     ensures { λ r. ⌜ Appended (now (out .entry)) n (fieldText value) r (now (out .exit)) ⌝ }
     ensures { λ r. ⌜ r ≤ n + 21 ⌝ }
 {
@@ -115,8 +117,8 @@ pub fn field(out: &mut [u8; 2097152], n: usize, value: u64) -> usize
 }
 
 // A blank and a word, which has no more than ten digits.
-fn word(out: &mut [u8; 2097152], n: usize, value: u32) -> usize
-    requires { ⌜ n + 11 ≤ 2097152 ⌝ }
+fn word(out: &mut [u8; BUFFER], n: usize, value: u32) -> usize
+    requires { ⌜ n + 11 ≤ buffer ⌝ }
     ensures { λ r. ⌜ Appended (now (out .entry)) n (fieldText value) r (now (out .exit)) ⌝ }
     ensures { λ r. ⌜ r ≤ n + 11 ⌝ }
 {
@@ -125,8 +127,8 @@ fn word(out: &mut [u8; 2097152], n: usize, value: u32) -> usize
 }
 
 // A blank before each word of a list.
-pub fn words(out: &mut [u8; 2097152], n: usize, list: &[u32]) -> usize
-    requires { ⌜ n + 11 * length (now list) ≤ 2097152 ⌝ }
+pub fn words(out: &mut [u8; BUFFER], n: usize, list: &[u32]) -> usize
+    requires { ⌜ n + 11 * length (now list) ≤ buffer ⌝ }
     ensures { λ r. ⌜ Appended (now (out .entry)) n (fields (now (list .entry))) r (now (out .exit)) ⌝ }
     ensures { λ r. ⌜ r ≤ n + 11 * length (now (list .entry)) ⌝ }
 {
@@ -142,8 +144,8 @@ pub fn words(out: &mut [u8; 2097152], n: usize, list: &[u32]) -> usize
 // ---- answers
 
 // NUMBER A B
-pub fn verdict(out: &mut [u8; 2097152], n: usize, v: Verdict) -> usize
-    requires { ⌜ n + 42 ≤ 2097152 ⌝ }
+pub fn verdict(out: &mut [u8; BUFFER], n: usize, v: Verdict) -> usize
+    requires { ⌜ n + 42 ≤ buffer ⌝ }
     ensures { λ r. ⌜ Appended (now (out .entry)) n (verdictText v) r (now (out .exit)) ⌝ }
     ensures { λ r. ⌜ r ≤ n + 42 ⌝ }
 {
@@ -153,8 +155,8 @@ pub fn verdict(out: &mut [u8; 2097152], n: usize, v: Verdict) -> usize
 }
 
 // NUMBER BLOCK INDEX FINISHED R0 .. R7 COUNT WORDS..
-pub fn run_answer(out: &mut [u8; 2097152], n: usize, r: RunAnswer, memory: &[u32]) -> usize
-    requires { ⌜ n + 172 + 11 * length (now memory) ≤ 2097152 ⌝ }
+pub fn run_answer(out: &mut [u8; BUFFER], n: usize, r: RunAnswer, memory: &[u32]) -> usize
+    requires { ⌜ n + 172 + 11 * length (now memory) ≤ buffer ⌝ }
     ensures { λ a. ⌜ Appended (now (out .entry)) n (runText r (now (memory .entry))) a (now (out .exit)) ⌝ }
     ensures { λ a. ⌜ a ≤ n + 172 + 11 * length (now (memory .entry)) ⌝ }
 {
@@ -169,8 +171,8 @@ pub fn run_answer(out: &mut [u8; 2097152], n: usize, r: RunAnswer, memory: &[u32
 }
 
 // malformed PLACE
-pub fn malformed(out: &mut [u8; 2097152], n: usize, place: u64) -> usize
-    requires { ⌜ n + 30 ≤ 2097152 ⌝ }
+pub fn malformed(out: &mut [u8; BUFFER], n: usize, place: u64) -> usize
+    requires { ⌜ n + 30 ≤ buffer ⌝ }
     ensures { λ r. ⌜ Appended (now (out .entry)) n (malformedText place) r (now (out .exit)) ⌝ }
     ensures { λ r. ⌜ r ≤ n + 30 ⌝ }
 {

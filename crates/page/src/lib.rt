@@ -10,7 +10,7 @@ use model::Verdict;
 // Half of the buffer: what is put at one time is no longer, and nothing is put after as much.
 pub const HALF: usize = 1000000;
 
-pub fn text(out: &mut [u8; 2097152], n: usize, bytes: &[u8]) -> usize
+pub fn text(out: &mut [u8; output::BUFFER], n: usize, bytes: &[u8]) -> usize
     ensures { λ r. ⌜ (n ≤ 1000000 → length (now (bytes .entry)) ≤ 1000000 → Appended (now (out .entry)) n (now (bytes .entry)) r (now (out .exit))) ⌝ }
 {
     if HALF < n {
@@ -22,7 +22,7 @@ pub fn text(out: &mut [u8; 2097152], n: usize, bytes: &[u8]) -> usize
     output::text(out, n, bytes)
 }
 
-pub fn put(out: &mut [u8; 2097152], n: usize, byte: u8) -> usize
+pub fn put(out: &mut [u8; output::BUFFER], n: usize, byte: u8) -> usize
     ensures { λ r. ⌜ (n ≤ 1000000 → Appended (now (out .entry)) n (byte ∷ []) r (now (out .exit))) ⌝ }
 {
     if HALF < n {
@@ -31,13 +31,13 @@ pub fn put(out: &mut [u8; 2097152], n: usize, byte: u8) -> usize
     output::put(out, n, byte)
 }
 
-pub fn line_end(out: &mut [u8; 2097152], n: usize) -> usize
+pub fn line_end(out: &mut [u8; output::BUFFER], n: usize) -> usize
     ensures { λ r. ⌜ (n ≤ 1000000 → Appended (now (out .entry)) n (10 ∷ []) r (now (out .exit))) ⌝ }
 {
     put(out, n, b'\n')
 }
 
-pub fn number(out: &mut [u8; 2097152], n: usize, value: u64) -> usize
+pub fn number(out: &mut [u8; output::BUFFER], n: usize, value: u64) -> usize
     ensures { λ r. ⌜ (n ≤ 1000000 → Appended (now (out .entry)) n (decimal value) r (now (out .exit))) ⌝ }
 {
     if HALF < n {
@@ -47,7 +47,7 @@ pub fn number(out: &mut [u8; 2097152], n: usize, value: u64) -> usize
 }
 
 // NUMBER A B
-pub fn verdict(out: &mut [u8; 2097152], n: usize, v: Verdict) -> usize
+pub fn verdict(out: &mut [u8; output::BUFFER], n: usize, v: Verdict) -> usize
     ensures { λ r. ⌜ (n ≤ 1000000 → Appended (now (out .entry)) n (verdictText v) r (now (out .exit))) ⌝ }
 {
     if HALF < n {
@@ -57,7 +57,7 @@ pub fn verdict(out: &mut [u8; 2097152], n: usize, v: Verdict) -> usize
 }
 
 // A blank before each word of a list.
-pub fn words(out: &mut [u8; 2097152], n: usize, list: &[u32]) -> usize
+pub fn words(out: &mut [u8; output::BUFFER], n: usize, list: &[u32]) -> usize
     ensures { λ r. ⌜ (n ≤ 1000000 → length (now (list .entry)) ≤ 90000 → Appended (now (out .entry)) n (fields (now (list .entry))) r (now (out .exit))) ⌝ }
 {
     if HALF < n {
@@ -76,6 +76,6 @@ fn front(bytes: &[u8], n: usize) {
 }
 
 // Writes the page out.
-pub fn write(out: &[u8; 2097152], n: usize) {
+pub fn write(out: &[u8; output::BUFFER], n: usize) {
     front(out, n);
 }

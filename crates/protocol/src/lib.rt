@@ -16,11 +16,11 @@ use grammar::DIGITS;
 use grammar::EMPTY;
 pub use grammar::ENTRY;
 pub use grammar::GAP;
-use grammar::LONGS_MOST;
+pub use grammar::LONGS_MOST;
 pub use grammar::MALFORMED;
 pub use grammar::MEMORY;
-use grammar::PARTS_MOST;
-use grammar::POOL;
+pub use grammar::PARTS_MOST;
+pub use grammar::POOL;
 use numeral::Found;
 pub use reader::Line;
 

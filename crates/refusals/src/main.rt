@@ -6,7 +6,7 @@ use answers::Style;
 use model::number;
 use service::Place;
 
-fn heading(out: &mut [u8; 2097152], n: usize) -> usize {
+fn heading(out: &mut [u8; output::BUFFER], n: usize) -> usize {
     page::text(
         out,
         n,
@@ -21,7 +21,7 @@ fn heading(out: &mut [u8; 2097152], n: usize) -> usize {
     )
 }
 
-fn titles(out: &mut [u8; 2097152], n: usize) -> usize {
+fn titles(out: &mut [u8; output::BUFFER], n: usize) -> usize {
     page::text(
         out,
         n,
@@ -30,7 +30,7 @@ fn titles(out: &mut [u8; 2097152], n: usize) -> usize {
     )
 }
 
-fn cell(out: &mut [u8; 2097152], n: usize, row: u32, column: u32) -> usize {
+fn cell(out: &mut [u8; output::BUFFER], n: usize, row: u32, column: u32) -> usize {
     let at = page::text(out, n, b" | ");
     if page::HALF < at {
         return at;
@@ -39,7 +39,7 @@ fn cell(out: &mut [u8; 2097152], n: usize, row: u32, column: u32) -> usize {
 }
 
 // A row after its number.
-fn columns(out: &mut [u8; 2097152], n: usize, row: u32) -> usize {
+fn columns(out: &mut [u8; output::BUFFER], n: usize, row: u32) -> usize {
     let a = cell(out, n, row, telling::NAME);
     let b = cell(out, a, row, telling::MEANING);
     let c = cell(out, b, row, telling::CAUSE);
@@ -48,14 +48,14 @@ fn columns(out: &mut [u8; 2097152], n: usize, row: u32) -> usize {
     page::text(out, e, b" |\n")
 }
 
-fn numbered(out: &mut [u8; 2097152], n: usize, row: u32) -> usize {
+fn numbered(out: &mut [u8; output::BUFFER], n: usize, row: u32) -> usize {
     let a = page::text(out, n, b"| ");
     let b = page::number(out, a, row as u64);
     columns(out, b, row)
 }
 
 // The rows of the questions.
-fn numbers(out: &mut [u8; 2097152], n: usize) -> usize {
+fn numbers(out: &mut [u8; output::BUFFER], n: usize) -> usize {
     let mut at = n;
     let mut row = number::TABLE_LENGTH;
     while row <= words::LAST {
@@ -65,7 +65,7 @@ fn numbers(out: &mut [u8; 2097152], n: usize) -> usize {
     at
 }
 
-fn table(out: &mut [u8; 2097152], n: usize) -> usize {
+fn table(out: &mut [u8; output::BUFFER], n: usize) -> usize {
     let a = titles(out, n);
     let b = numbered(out, a, number::PASSED);
     let c = page::text(out, b, b"| 0");
@@ -76,7 +76,7 @@ fn table(out: &mut [u8; 2097152], n: usize) -> usize {
     columns(out, g, words::MALFORMED)
 }
 
-fn examples(out: &mut [u8; 2097152], n: usize) -> usize {
+fn examples(out: &mut [u8; output::BUFFER], n: usize) -> usize {
     page::text(
         out,
         n,
@@ -110,11 +110,11 @@ fn past_line(bytes: &[u8], from: usize) -> usize
 fn with_answer(
     bytes: &[u8],
     p: Place,
-    words: &mut [u32; 135168],
-    ends: &mut [usize; 7],
-    longs: &mut [u64; 1],
-    space: &mut [u32; 135168],
-    out: &mut [u8; 2097152],
+    words: &mut [u32; protocol::POOL],
+    ends: &mut [usize; protocol::PARTS_MOST],
+    longs: &mut [u64; protocol::LONGS_MOST],
+    space: &mut [u32; protocol::POOL],
+    out: &mut [u8; output::BUFFER],
 ) -> Place
     requires { ⌜ Ready p × (0 < length (now bytes)) ⌝ }
     ensures { λ r. ⌜ Ready r ⌝ }
@@ -133,11 +133,11 @@ fn with_answer(
 // Each line with its answer.
 fn answered(
     bytes: &[u8],
-    words: &mut [u32; 135168],
-    ends: &mut [usize; 7],
-    longs: &mut [u64; 1],
-    space: &mut [u32; 135168],
-    out: &mut [u8; 2097152],
+    words: &mut [u32; protocol::POOL],
+    ends: &mut [usize; protocol::PARTS_MOST],
+    longs: &mut [u64; protocol::LONGS_MOST],
+    space: &mut [u32; protocol::POOL],
+    out: &mut [u8; output::BUFFER],
 ) {
     let mut p = service::start(false);
     let mut at = 0;
@@ -149,11 +149,11 @@ fn answered(
 }
 
 // The requests on standard input, as far as they fit into one buffer.
-fn requests(out: &mut [u8; 2097152]) {
-    let mut words = [0u32; 135168];
-    let mut ends = [0usize; 7];
-    let mut longs = [0u64; 1];
-    let mut space = [0u32; 135168];
+fn requests(out: &mut [u8; output::BUFFER]) {
+    let mut words = [0u32; protocol::POOL];
+    let mut ends = [0usize; protocol::PARTS_MOST];
+    let mut longs = [0u64; protocol::LONGS_MOST];
+    let mut space = [0u32; protocol::POOL];
     let mut buffer = io::large_buffer();
     let n = io::read_full(libc::STDIN_FILENO, &mut buffer);
     answered(
@@ -167,7 +167,7 @@ fn requests(out: &mut [u8; 2097152]) {
 }
 
 fn main() {
-    let mut out = [0u8; 2097152];
+    let mut out = [0u8; output::BUFFER];
     let a = heading(&mut out, 0);
     let b = table(&mut out, a);
     let c = examples(&mut out, b);

@@ -71,11 +71,11 @@ fn next_line(p: Place, reply: Reply) -> Place
 fn line_ended(
     p: Place,
     s: Style,
-    words: &mut [u32; 135168],
-    ends: &mut [usize; 7],
-    longs: &mut [u64; 1],
-    space: &mut [u32; 135168],
-    out: &mut [u8; 2097152],
+    words: &mut [u32; protocol::POOL],
+    ends: &mut [usize; protocol::PARTS_MOST],
+    longs: &mut [u64; protocol::LONGS_MOST],
+    space: &mut [u32; protocol::POOL],
+    out: &mut [u8; output::BUFFER],
 ) -> Place
     requires { ⌜ Ready p ⌝ }
     ensures { λ r. ⌜ Answered s (standingIn p words ends longs) (p .held) (now (out .entry)) (standingOut r words ends longs) (r .held) (now (out .exit)) ⌝ }
@@ -92,11 +92,11 @@ fn line(
     from: usize,
     p: Place,
     s: Style,
-    words: &mut [u32; 135168],
-    ends: &mut [usize; 7],
-    longs: &mut [u64; 1],
-    space: &mut [u32; 135168],
-    out: &mut [u8; 2097152],
+    words: &mut [u32; protocol::POOL],
+    ends: &mut [usize; protocol::PARTS_MOST],
+    longs: &mut [u64; protocol::LONGS_MOST],
+    space: &mut [u32; protocol::POOL],
+    out: &mut [u8; output::BUFFER],
 ) -> Filled
     requires { ⌜ Ready p × (from < length (now bytes)) ⌝ }
     ensures same { λ r. ⌜ Fills s (now (bytes .entry)) from p words ends longs out r ⌝ }
@@ -120,11 +120,11 @@ pub fn fill(
     from: usize,
     p: Place,
     s: Style,
-    words: &mut [u32; 135168],
-    ends: &mut [usize; 7],
-    longs: &mut [u64; 1],
-    space: &mut [u32; 135168],
-    out: &mut [u8; 2097152],
+    words: &mut [u32; protocol::POOL],
+    ends: &mut [usize; protocol::PARTS_MOST],
+    longs: &mut [u64; protocol::LONGS_MOST],
+    space: &mut [u32; protocol::POOL],
+    out: &mut [u8; output::BUFFER],
 ) -> Filled
     requires { ⌜ Ready p × (from < length (now bytes)) ⌝ }
     ensures same { λ r. ⌜ Fills s (now (bytes .entry)) from p words ends longs out r ⌝ }
@@ -145,11 +145,11 @@ pub fn fill(
 pub fn finish(
     p: Place,
     s: Style,
-    words: &mut [u32; 135168],
-    ends: &mut [usize; 7],
-    longs: &mut [u64; 1],
-    space: &mut [u32; 135168],
-    out: &mut [u8; 2097152],
+    words: &mut [u32; protocol::POOL],
+    ends: &mut [usize; protocol::PARTS_MOST],
+    longs: &mut [u64; protocol::LONGS_MOST],
+    space: &mut [u32; protocol::POOL],
+    out: &mut [u8; output::BUFFER],
 ) -> Place
     requires { ⌜ Ready p ⌝ }
     ensures { λ r. ⌜ Finished s (standingIn p words ends longs) (p .held) (now (out .entry)) r (now (out .exit)) ⌝ }

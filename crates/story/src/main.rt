@@ -19,7 +19,7 @@ const TWO_AND_TWO: u32 = 51;
 
 const CORRECTION_FIRST: u32 = 15;
 
-fn say(out: &mut [u8; 2097152], n: usize, words: &[u8], v: Verdict) -> usize {
+fn say(out: &mut [u8; output::BUFFER], n: usize, words: &[u8], v: Verdict) -> usize {
     let a = page::text(out, n, words);
     let b = page::put(out, a, b' ');
     let c = page::verdict(out, b, v);
@@ -27,14 +27,20 @@ fn say(out: &mut [u8; 2097152], n: usize, words: &[u8], v: Verdict) -> usize {
 }
 
 // The verdict on one routine.
-fn judged(out: &mut [u8; 2097152], n: usize, words: &[u8], blocks: &[u32], code: &[u32]) -> usize {
+fn judged(
+    out: &mut [u8; output::BUFFER],
+    n: usize,
+    words: &[u8],
+    blocks: &[u32],
+    code: &[u32],
+) -> usize {
     let types = plots::types();
     let tags = plots::tags();
     let v = loader::check(&types, &tags, blocks, code);
     say(out, n, words, v)
 }
 
-fn judged_hasty(out: &mut [u8; 2097152], n: usize) -> usize {
+fn judged_hasty(out: &mut [u8; output::BUFFER], n: usize) -> usize {
     let blocks = routines::hasty_blocks();
     let code = routines::hasty_code();
     judged(
@@ -46,19 +52,19 @@ fn judged_hasty(out: &mut [u8; 2097152], n: usize) -> usize {
     )
 }
 
-fn judged_correction(out: &mut [u8; 2097152], n: usize) -> usize {
+fn judged_correction(out: &mut [u8; output::BUFFER], n: usize) -> usize {
     let blocks = routines::correction_blocks();
     let code = routines::correction_code();
     judged(out, n, b"stage and weight in one block:", &blocks, &code)
 }
 
-fn judged_ranking(out: &mut [u8; 2097152], n: usize) -> usize {
+fn judged_ranking(out: &mut [u8; output::BUFFER], n: usize) -> usize {
     let blocks = routines::ranking_blocks();
     let code = routines::ranking_code();
     judged(out, n, b"ranking:", &blocks, &code)
 }
 
-fn remembered(out: &mut [u8; 2097152], n: usize) -> usize {
+fn remembered(out: &mut [u8; output::BUFFER], n: usize) -> usize {
     let types = plots::types();
     let tags = plots::tags();
     let allocations = plots::allocations();
@@ -69,7 +75,7 @@ fn remembered(out: &mut [u8; 2097152], n: usize) -> usize {
 
 // Whether a routine may start at its block 0.
 fn entered(
-    out: &mut [u8; 2097152],
+    out: &mut [u8; output::BUFFER],
     n: usize,
     words: &[u8],
     blocks: &[u32],
@@ -93,7 +99,7 @@ fn entered(
     say(out, n, words, v)
 }
 
-fn entered_correction(out: &mut [u8; 2097152], n: usize) -> usize {
+fn entered_correction(out: &mut [u8; output::BUFFER], n: usize) -> usize {
     let blocks = routines::correction_blocks();
     let code = routines::correction_code();
     entered(
@@ -106,7 +112,7 @@ fn entered_correction(out: &mut [u8; 2097152], n: usize) -> usize {
     )
 }
 
-fn entered_ranking(out: &mut [u8; 2097152], n: usize) -> usize {
+fn entered_ranking(out: &mut [u8; output::BUFFER], n: usize) -> usize {
     let blocks = routines::ranking_blocks();
     let code = routines::ranking_code();
     entered(
@@ -119,7 +125,7 @@ fn entered_ranking(out: &mut [u8; 2097152], n: usize) -> usize {
     )
 }
 
-fn counted(out: &mut [u8; 2097152], n: usize, words: &[u8], w: u32) -> usize {
+fn counted(out: &mut [u8; output::BUFFER], n: usize, words: &[u8], w: u32) -> usize {
     let a = page::text(out, n, words);
     page::number(out, a, w as u64)
 }
@@ -158,7 +164,7 @@ fn fits(memory: &[u32]) -> bool {
 }
 
 // Whose turn it was, and whether every record fits after it.
-fn turn_taken(out: &mut [u8; 2097152], n: usize, who: u8, memory: &[u32]) -> usize {
+fn turn_taken(out: &mut [u8; output::BUFFER], n: usize, who: u8, memory: &[u32]) -> usize {
     let at = page::put(out, n, who);
     if fits(memory) {
         return at;
@@ -167,7 +173,7 @@ fn turn_taken(out: &mut [u8; 2097152], n: usize, who: u8, memory: &[u32]) -> usi
 }
 
 // What the ranking saw: the stage, and the weight where the stage is 1.
-fn seen(out: &mut [u8; 2097152], n: usize, r: RunAnswer) -> usize {
+fn seen(out: &mut [u8; output::BUFFER], n: usize, r: RunAnswer) -> usize {
     let registers = r.registers;
     let stage = registers[2];
     let weight = registers[4];
@@ -176,7 +182,7 @@ fn seen(out: &mut [u8; 2097152], n: usize, r: RunAnswer) -> usize {
     counted(out, b, b", weight ", weight)
 }
 
-fn left(out: &mut [u8; 2097152], n: usize, c: RunAnswer, memory: &[u32]) -> usize {
+fn left(out: &mut [u8; output::BUFFER], n: usize, c: RunAnswer, memory: &[u32]) -> usize {
     let a = counted(out, n, b"; correction answers ", c.number);
     let b = page::text(out, a, b" and leaves");
     let d = page::words(out, b, memory);
@@ -191,7 +197,12 @@ struct Waiting {
 }
 
 // A turn of the correction or of the ranking, after which the records fit.
-fn next(out: &mut [u8; 2097152], correction: bool, memory: &mut [u32], w: Waiting) -> Waiting {
+fn next(
+    out: &mut [u8; output::BUFFER],
+    correction: bool,
+    memory: &mut [u32],
+    w: Waiting,
+) -> Waiting {
     let c = w.correction;
     let r = w.ranking;
     if correction {
@@ -211,12 +222,12 @@ fn next(out: &mut [u8; 2097152], correction: bool, memory: &mut [u32], w: Waitin
 }
 
 // Two turns. The bits of order say whose each is, from the lowest on: 1 the correction's, 0 the ranking's.
-fn two(out: &mut [u8; 2097152], order: u32, memory: &mut [u32], w: Waiting) -> Waiting {
+fn two(out: &mut [u8; output::BUFFER], order: u32, memory: &mut [u32], w: Waiting) -> Waiting {
     let first = next(out, order % 2 == 1, memory, w);
     next(out, order / 2 % 2 == 1, memory, first)
 }
 
-fn four(out: &mut [u8; 2097152], order: u32, memory: &mut [u32], w: Waiting) -> Waiting {
+fn four(out: &mut [u8; output::BUFFER], order: u32, memory: &mut [u32], w: Waiting) -> Waiting {
     let first = two(out, order, memory, w);
     two(out, order / 4, memory, first)
 }
@@ -233,25 +244,25 @@ fn start(at: usize, memory: &mut [u32]) -> Waiting {
 }
 
 // Eight turns of one block each, in this order.
-fn eight(out: &mut [u8; 2097152], order: u32, memory: &mut [u32], w: Waiting) -> Waiting {
+fn eight(out: &mut [u8; output::BUFFER], order: u32, memory: &mut [u32], w: Waiting) -> Waiting {
     let first = four(out, order, memory, w);
     four(out, order / 16, memory, first)
 }
 
-fn turns(out: &mut [u8; 2097152], n: usize, memory: &mut [u32], order: u32) -> usize {
+fn turns(out: &mut [u8; output::BUFFER], n: usize, memory: &mut [u32], order: u32) -> usize {
     let w = start(page::text(out, n, b"turns "), memory);
     let last = eight(out, order, memory, w);
     let at = seen(out, last.at, last.ranking);
     left(out, at, last.correction, memory)
 }
 
-fn taken_in(out: &mut [u8; 2097152], n: usize, order: u32) -> usize {
+fn taken_in(out: &mut [u8; output::BUFFER], n: usize, order: u32) -> usize {
     let mut memory = plots::memory();
     turns(out, n, &mut memory, order)
 }
 
 fn main() {
-    let mut out = [0u8; 2097152];
+    let mut out = [0u8; output::BUFFER];
     let a = judged_hasty(&mut out, 0);
     let b = judged_correction(&mut out, a);
     let c = judged_ranking(&mut out, b);

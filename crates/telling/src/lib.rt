@@ -2,7 +2,7 @@
 ghost use mathlib.Core.Path.{_≡_};
 ghost use Prim.Native.Nat.{_+_, _≤_};
 ghost use lib.ListN.{length, drop};
-ghost use Rattle.output.specs.Appended.{Appended};
+ghost use Rattle.output.specs.Appended.{buffer, Appended};
 ghost use Rattle.telling.specs.Row.{afterByte, columnOf, letterText, written, hasPlace, placeText, answerText, saidText, Fine};
 ghost use Rattle.telling.specs.Told.{Told};
 use model::number;
@@ -64,8 +64,8 @@ fn start(k: u32, row: &[u8]) -> usize
     i
 }
 
-fn letter(out: &mut [u8; 2097152], n: usize, l: Letters, byte: u8) -> usize
-    requires { ⌜ n + 20 ≤ 2097152 ⌝ }
+fn letter(out: &mut [u8; output::BUFFER], n: usize, l: Letters, byte: u8) -> usize
+    requires { ⌜ n + 20 ≤ buffer ⌝ }
     ensures { λ r. ⌜ Appended (now (out .entry)) n (letterText l byte) r (now (out .exit)) ⌝ }
 {
     if !l.answered {
@@ -81,8 +81,8 @@ fn letter(out: &mut [u8; 2097152], n: usize, l: Letters, byte: u8) -> usize
 }
 
 // A column. There is room for one number more than it takes.
-fn column(out: &mut [u8; 2097152], n: usize, k: u32, l: Letters, row: &[u8]) -> usize
-    requires { ⌜ n + length (written l (columnOf k (now row))) + 20 ≤ 2097152 ⌝ }
+fn column(out: &mut [u8; output::BUFFER], n: usize, k: u32, l: Letters, row: &[u8]) -> usize
+    requires { ⌜ n + length (written l (columnOf k (now row))) + 20 ≤ buffer ⌝ }
     ensures { λ r. ⌜ Appended (now (out .entry)) n (written l (columnOf k (now (row .entry)))) r (now (out .exit)) ⌝ }
 {
     let mut at = n;
@@ -122,8 +122,8 @@ fn has_place(row: u32) -> bool
 }
 
 // The place that was answered.
-fn place(out: &mut [u8; 2097152], n: usize, a: Asked, row: &[u8]) -> usize
-    requires { ⌜ Fine (now row) × (n + 14025 ≤ 2097152) ⌝ }
+fn place(out: &mut [u8; output::BUFFER], n: usize, a: Asked, row: &[u8]) -> usize
+    requires { ⌜ Fine (now row) × (n + 14025 ≤ buffer) ⌝ }
     ensures { λ r. ⌜ Appended (now (out .entry)) n (placeText (a .number) (a .first) (a .second) (now (row .entry))) r (now (out .exit)) ⌝ }
 {
     if !has_place(a.number) {
@@ -139,8 +139,8 @@ fn place(out: &mut [u8; 2097152], n: usize, a: Asked, row: &[u8]) -> usize
 }
 
 // Name, meaning and place.
-fn answer(out: &mut [u8; 2097152], n: usize, a: Asked, row: &[u8]) -> usize
-    requires { ⌜ Fine (now row) × (n + 16384 ≤ 2097152) ⌝ }
+fn answer(out: &mut [u8; output::BUFFER], n: usize, a: Asked, row: &[u8]) -> usize
+    requires { ⌜ Fine (now row) × (n + 16384 ≤ buffer) ⌝ }
     ensures { λ r. ⌜ Appended (now (out .entry)) n (answerText (a .number) (a .first) (a .second) (now (row .entry))) r (now (out .exit)) ⌝ }
 {
     let b = output::text(out, n, b"  # ");
@@ -151,8 +151,8 @@ fn answer(out: &mut [u8; 2097152], n: usize, a: Asked, row: &[u8]) -> usize
 }
 
 // What is asked of a row.
-pub fn said(out: &mut [u8; 2097152], n: usize, a: Asked, row: &[u8]) -> usize
-    requires { ⌜ Fine (now row) × (n + 16384 ≤ 2097152) ⌝ }
+pub fn said(out: &mut [u8; output::BUFFER], n: usize, a: Asked, row: &[u8]) -> usize
+    requires { ⌜ Fine (now row) × (n + 16384 ≤ buffer) ⌝ }
     ensures { λ r. ⌜ Told (saidText a) (now (out .entry)) n r (now (out .exit)) ⌝ }
 {
     if a.whole {

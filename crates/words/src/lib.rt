@@ -3,6 +3,7 @@
 mod rows;
 
 ghost use Prim.Native.Nat.{_+_, _≤_};
+ghost use Rattle.output.specs.Appended.{buffer};
 ghost use Rattle.telling.specs.Row.{columnOf, answerText, saidText};
 ghost use Rattle.telling.specs.Told.{Told};
 use model::number;
@@ -17,8 +18,8 @@ pub const HALTED: u32 = 100;
 // A line that is no request.
 pub const MALFORMED: u32 = 101;
 
-fn later(out: &mut [u8; 2097152], n: usize, a: Asked) -> usize
-    requires { ⌜ n + 16384 ≤ 2097152 ⌝ }
+fn later(out: &mut [u8; output::BUFFER], n: usize, a: Asked) -> usize
+    requires { ⌜ n + 16384 ≤ buffer ⌝ }
     ensures { λ r. ⌜ Told (saidText a) (now (out .entry)) n r (now (out .exit)) ⌝ }
 {
     let row = a.number;
@@ -37,8 +38,8 @@ fn later(out: &mut [u8; 2097152], n: usize, a: Asked) -> usize
     rows::others(out, n, a)
 }
 
-fn cell(out: &mut [u8; 2097152], n: usize, a: Asked) -> usize
-    requires { ⌜ n + 16384 ≤ 2097152 ⌝ }
+fn cell(out: &mut [u8; output::BUFFER], n: usize, a: Asked) -> usize
+    requires { ⌜ n + 16384 ≤ buffer ⌝ }
     ensures { λ r. ⌜ Told (saidText a) (now (out .entry)) n r (now (out .exit)) ⌝ }
 {
     let row = a.number;
@@ -67,8 +68,8 @@ fn cell(out: &mut [u8; 2097152], n: usize, a: Asked) -> usize
 }
 
 // A column of a row; nothing for a number that is no answer.
-pub fn column(out: &mut [u8; 2097152], n: usize, row: u32, column: u32) -> usize
-    requires { ⌜ n + 16384 ≤ 2097152 ⌝ }
+pub fn column(out: &mut [u8; output::BUFFER], n: usize, row: u32, column: u32) -> usize
+    requires { ⌜ n + 16384 ≤ buffer ⌝ }
     ensures { λ r. ⌜ Told (columnOf column) (now (out .entry)) n r (now (out .exit)) ⌝ }
 {
     let a = Asked {
@@ -82,8 +83,8 @@ pub fn column(out: &mut [u8; 2097152], n: usize, row: u32, column: u32) -> usize
 }
 
 // An answer in words, after it on its line: name, meaning and place.
-pub fn explain(out: &mut [u8; 2097152], n: usize, row: u32, first: u64, second: u64) -> usize
-    requires { ⌜ n + 16384 ≤ 2097152 ⌝ }
+pub fn explain(out: &mut [u8; output::BUFFER], n: usize, row: u32, first: u64, second: u64) -> usize
+    requires { ⌜ n + 16384 ≤ buffer ⌝ }
     ensures { λ r. ⌜ Told (answerText row first second) (now (out .entry)) n r (now (out .exit)) ⌝ }
 {
     let a = Asked {

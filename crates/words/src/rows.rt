@@ -1,5 +1,6 @@
 // The rows of the table.
 ghost use Prim.Native.Nat.{_+_, _≤_};
+ghost use Rattle.output.specs.Appended.{buffer};
 ghost use Rattle.telling.specs.Row.{saidText};
 ghost use Rattle.telling.specs.Told.{Told};
 use model::number;
@@ -7,8 +8,8 @@ use telling::Asked;
 use telling::said;
 
 // The length of a table, and field counts.
-pub fn lengths(out: &mut [u8; 2097152], n: usize, a: Asked) -> usize
-    requires { ⌜ n + 16384 ≤ 2097152 ⌝ }
+pub fn lengths(out: &mut [u8; output::BUFFER], n: usize, a: Asked) -> usize
+    requires { ⌜ n + 16384 ≤ buffer ⌝ }
     ensures { λ r. ⌜ Told (saidText a) (now (out .entry)) n r (now (out .exit)) ⌝ }
 {
     if a.number == number::TABLE_LENGTH {
@@ -40,8 +41,8 @@ pub fn lengths(out: &mut [u8; 2097152], n: usize, a: Asked) -> usize
 }
 
 // The type words of records, and tags.
-pub fn types(out: &mut [u8; 2097152], n: usize, a: Asked) -> usize
-    requires { ⌜ n + 16384 ≤ 2097152 ⌝ }
+pub fn types(out: &mut [u8; output::BUFFER], n: usize, a: Asked) -> usize
+    requires { ⌜ n + 16384 ≤ buffer ⌝ }
     ensures { λ r. ⌜ Told (saidText a) (now (out .entry)) n r (now (out .exit)) ⌝ }
 {
     if a.number == number::FIELD_TYPE {
@@ -74,8 +75,8 @@ pub fn types(out: &mut [u8; 2097152], n: usize, a: Asked) -> usize
 }
 
 // Blocks: lengths and annotations.
-pub fn blocks(out: &mut [u8; 2097152], n: usize, a: Asked) -> usize
-    requires { ⌜ n + 16384 ≤ 2097152 ⌝ }
+pub fn blocks(out: &mut [u8; output::BUFFER], n: usize, a: Asked) -> usize
+    requires { ⌜ n + 16384 ≤ buffer ⌝ }
     ensures { λ r. ⌜ Told (saidText a) (now (out .entry)) n r (now (out .exit)) ⌝ }
 {
     if a.number == number::BLOCK_LENGTH {
@@ -109,8 +110,8 @@ pub fn blocks(out: &mut [u8; 2097152], n: usize, a: Asked) -> usize
 }
 
 // The form of an instruction.
-pub fn forms(out: &mut [u8; 2097152], n: usize, a: Asked) -> usize
-    requires { ⌜ n + 16384 ≤ 2097152 ⌝ }
+pub fn forms(out: &mut [u8; output::BUFFER], n: usize, a: Asked) -> usize
+    requires { ⌜ n + 16384 ≤ buffer ⌝ }
     ensures { λ r. ⌜ Told (saidText a) (now (out .entry)) n r (now (out .exit)) ⌝ }
 {
     if a.number == number::INSTRUCTION {
@@ -154,8 +155,8 @@ pub fn forms(out: &mut [u8; 2097152], n: usize, a: Asked) -> usize
 }
 
 // Loads and stores.
-pub fn accesses(out: &mut [u8; 2097152], n: usize, a: Asked) -> usize
-    requires { ⌜ n + 16384 ≤ 2097152 ⌝ }
+pub fn accesses(out: &mut [u8; output::BUFFER], n: usize, a: Asked) -> usize
+    requires { ⌜ n + 16384 ≤ buffer ⌝ }
     ensures { λ r. ⌜ Told (saidText a) (now (out .entry)) n r (now (out .exit)) ⌝ }
 {
     if a.number == number::REFERENCE {
@@ -199,8 +200,8 @@ pub fn accesses(out: &mut [u8; 2097152], n: usize, a: Asked) -> usize
 }
 
 // The end of a block.
-pub fn ends(out: &mut [u8; 2097152], n: usize, a: Asked) -> usize
-    requires { ⌜ n + 16384 ≤ 2097152 ⌝ }
+pub fn ends(out: &mut [u8; output::BUFFER], n: usize, a: Asked) -> usize
+    requires { ⌜ n + 16384 ≤ buffer ⌝ }
     ensures { λ r. ⌜ Told (saidText a) (now (out .entry)) n r (now (out .exit)) ⌝ }
 {
     if a.number == number::OPEN_RECORD {
@@ -243,8 +244,8 @@ pub fn ends(out: &mut [u8; 2097152], n: usize, a: Asked) -> usize
 }
 
 // Where a run starts, what it may reach.
-pub fn runs(out: &mut [u8; 2097152], n: usize, a: Asked) -> usize
-    requires { ⌜ n + 16384 ≤ 2097152 ⌝ }
+pub fn runs(out: &mut [u8; output::BUFFER], n: usize, a: Asked) -> usize
+    requires { ⌜ n + 16384 ≤ buffer ⌝ }
     ensures { λ r. ⌜ Told (saidText a) (now (out .entry)) n r (now (out .exit)) ⌝ }
 {
     if a.number == number::START_BLOCK {
@@ -287,8 +288,8 @@ pub fn runs(out: &mut [u8; 2097152], n: usize, a: Asked) -> usize
 }
 
 // Allocations, and the fields of records.
-pub fn records(out: &mut [u8; 2097152], n: usize, a: Asked) -> usize
-    requires { ⌜ n + 16384 ≤ 2097152 ⌝ }
+pub fn records(out: &mut [u8; output::BUFFER], n: usize, a: Asked) -> usize
+    requires { ⌜ n + 16384 ≤ buffer ⌝ }
     ensures { λ r. ⌜ Told (saidText a) (now (out .entry)) n r (now (out .exit)) ⌝ }
 {
     if a.number == number::ALLOCATION {
@@ -320,8 +321,8 @@ pub fn records(out: &mut [u8; 2097152], n: usize, a: Asked) -> usize
 }
 
 // Registers; the code index.
-pub fn registers(out: &mut [u8; 2097152], n: usize, a: Asked) -> usize
-    requires { ⌜ n + 16384 ≤ 2097152 ⌝ }
+pub fn registers(out: &mut [u8; output::BUFFER], n: usize, a: Asked) -> usize
+    requires { ⌜ n + 16384 ≤ buffer ⌝ }
     ensures { λ r. ⌜ Told (saidText a) (now (out .entry)) n r (now (out .exit)) ⌝ }
 {
     if a.number == number::REGISTER {
@@ -352,8 +353,8 @@ pub fn registers(out: &mut [u8; 2097152], n: usize, a: Asked) -> usize
 }
 
 // Where no question has a no.
-pub fn outcomes(out: &mut [u8; 2097152], n: usize, a: Asked) -> usize
-    requires { ⌜ n + 16384 ≤ 2097152 ⌝ }
+pub fn outcomes(out: &mut [u8; output::BUFFER], n: usize, a: Asked) -> usize
+    requires { ⌜ n + 16384 ≤ buffer ⌝ }
     ensures { λ r. ⌜ Told (saidText a) (now (out .entry)) n r (now (out .exit)) ⌝ }
 {
     if a.number == number::PASSED {
@@ -384,8 +385,8 @@ pub fn outcomes(out: &mut [u8; 2097152], n: usize, a: Asked) -> usize
 }
 
 // A run that halted, and a line that is no request.
-pub fn others(out: &mut [u8; 2097152], n: usize, a: Asked) -> usize
-    requires { ⌜ n + 16384 ≤ 2097152 ⌝ }
+pub fn others(out: &mut [u8; output::BUFFER], n: usize, a: Asked) -> usize
+    requires { ⌜ n + 16384 ≤ buffer ⌝ }
     ensures { λ r. ⌜ Told (saidText a) (now (out .entry)) n r (now (out .exit)) ⌝ }
 {
     if a.number == super::HALTED {
