@@ -115,7 +115,7 @@ static void rows(void)
 /* Every number that has a name, looked for far past the last; then some that have none. */
 static void show_names(const char *function, const char *(*name_of)(uint32_t))
 {
-    const uint32_t none[] = {23, 39, 41, 0xffffffff};
+    const uint32_t none[] = {22, 39, 41, 0xffffffff};
     for (uint32_t number = 0; number < 70000; number++) {
         if (strcmp(name_of(number), "unknown") != 0) {
             printf("%s: %" PRIu32 " %s\n", function, number, name_of(number));

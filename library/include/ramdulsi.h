@@ -58,9 +58,9 @@ extern "C" {
 #endif
 
 /* The version of this header, and of the archive that it comes with. */
-#define RAMDULSI_VERSION "0.1.0"
+#define RAMDULSI_VERSION "0.2.0"
 #define RAMDULSI_VERSION_MAJOR 0
-#define RAMDULSI_VERSION_MINOR 1
+#define RAMDULSI_VERSION_MINOR 2
 #define RAMDULSI_VERSION_PATCH 0
 
 /* Bytes of stack that a thread needs for ramdulsi_check and ramdulsi_run, and for ramdulsi_memory_check and ramdulsi_entry_check, which
@@ -98,8 +98,7 @@ extern "C" {
 #define RAMDULSI_ANSWER_ALLOCATION 19u
 #define RAMDULSI_ANSWER_FIELD 20u
 #define RAMDULSI_ANSWER_REGISTER 21u
-/* no call gives it: other refusals keep a run inside its code */
-#define RAMDULSI_ANSWER_CODE_INDEX 22u
+/* no call answers 22, and none will */
 /* a run's budget is finished, and the routine goes on */
 #define RAMDULSI_ANSWER_PAUSED 40u
 
@@ -129,7 +128,6 @@ static inline const char *ramdulsi_name_of_check(uint32_t number)
     case RAMDULSI_ANSWER_ALLOCATION: return "allocation";
     case RAMDULSI_ANSWER_FIELD: return "field";
     case RAMDULSI_ANSWER_REGISTER: return "register";
-    case RAMDULSI_ANSWER_CODE_INDEX: return "code index";
     case RAMDULSI_ANSWER_PAUSED: return "paused";
     default: return "unknown";
     }

@@ -1,7 +1,7 @@
 -- A run: blocks up to a budget, and the opening questions.
 use mathlib.Core.Path.{_≡_, refl, sym, ap, _∙_}
 use mathlib.Core.Logic.{_⊎_, inl, inr}
-use mathlib.Core.List.{List, [], _∷_}
+use mathlib.Core.List.{List}
 use Prim.Native.Nat.{ℕ, zero, suc, _+_, _-_, _<_, _≤_}
 use native.Mathlib.Nat.{zero-add, add-zero, sub-eq-zero-of-le}
 use native.Mathlib.Numerals.{add-one}
@@ -13,8 +13,8 @@ use Rattle.model.specs.Table.{Routine, routineOf, startOf, headOf, rows, length
 use Rattle.model.specs.Machine.{entering, State, Step, goes, halts, faults, step, Ran, halted, paused, faulted, onward, finish, steps, runBlocks, Run}
 use Rattle.model.specs.Machine.{answerOf, runAsk, opened, run, Ready, runQuestions}
 use Rattle.model.proofs.Logic.{number-unless}
-use Rattle.model.proofs.TableLaws.{Sized, sized}
-use Rattle.model.proofs.MachineLaws.{goes-halts, goes-faults, OfCode, of-7, of-8, of-9, of-18, of-22, fault-asks, Visited, visited-here, visited-step}
+use Rattle.model.proofs.TableLaws.{sized}
+use Rattle.model.proofs.MachineLaws.{goes-faults, OfCode, of-7, of-8, of-9, of-18, fault-asks, visited-here, steps-visited}
 use Rattle.model.proofs.MachineLaws.{later, laterRan, blocks-later}
 use Rattle.table.proofs.Questions.{left, no-refusal, ComesTo}
 use Rattle.table.proofs.Laws.{start-more}
@@ -34,7 +34,6 @@ not-first of-7 e = omega arith
 not-first of-8 e = omega arith
 not-first of-9 e = omega arith
 not-first of-18 e = omega arith
-not-first of-22 e = omega arith
 
 module _ (P : Routine) where
   step-asks : (s : State) → NoFirst (step P s)
@@ -62,19 +61,6 @@ unfolding exitOf
 enters x s t (inl e) = rw e
 enters x s t (inr (e, n)) = rw (e, n, add-one (s .block))
 
--- the steps of a block that exists lead to a block that exists
-module _ (P : Routine) (S : Sized P) where
-  steps-visited : (n : ℕ) (s₀ s s' : State) → Visited P s₀ s → goes s' ≡ steps P n s → Visited P s₀ s'
-  unfolding steps onward
-  steps-visited zero s₀ s s' A e = let z : s' ≡ s = cc in rw z A
-  steps-visited (suc n) s₀ s s' A e = go (step P s) refl (λ t B. steps-visited n s₀ t s' B) e
-    where
-      go : (x : Step) → step P s ≡ x → ((t : State) → Visited P s₀ t → goes s' ≡ steps P n t → Visited P s₀ s')
-          → goes s' ≡ onward x (λ t. steps P n t) → Visited P s₀ s'
-      go (goes t) p rest e = rest t (visited-step P S s₀ s t A p) e
-      go (halts t) p rest e = absurd (goes-halts e)
-      go (faults q t) p rest e = absurd (goes-faults e)
-
 -- ---- the part of a block
 
 module _ (C : Code) (q : lengthsAsk (C .blocks) (length (C .code)) ≡ ok tt) where
@@ -84,12 +70,12 @@ module _ (C : Code) (q : lengthsAsk (C .blocks) (length (C .code)) ≡ ok tt) wh
   bounds b h = let S = sized C q in (S .least b h, S .inside b h)
 
   pub covers : (b first past : ℕ) → b < rows (C .blocks) → first ≡ startOf (C .blocks) b → past ≡ startOf (C .blocks) (b + 1)
-      → Covers (routineOf C) b (take (past - first) (drop first (C .code))) (length (C .code) - first)
+      → Covers (routineOf C) b (take (past - first) (drop first (C .code)))
   unfolding routineOf
   covers b first past h e₁ e₂ =
       let (l, k) = bounds b h in
       let d : past - first ≡ headOf (C .blocks) b = omega (arith, start-more (C .blocks) b) in
-      rw (d, e₁) (record { same = refl; long = simp (length-take, length-drop) (omega arith); left = omega arith })
+      rw (d, e₁) (record { same = refl; long = simp (length-take, length-drop) (omega arith) })
 
   -- a block's end leads to a block of the table
   pub leads-on : (n b j f c c' : ℕ) (r m r' m' : List ℕ) → b < rows (C .blocks)

@@ -10,7 +10,6 @@ ghost use Rattle.machine.specs.Run.{Covers, Opened, ranOf};
 use model::RunAnswer;
 use model::Verdict;
 use model::limit;
-use model::number::CODE_INDEX;
 use model::number::HALTED;
 use model::number::PASSED;
 use model::number::PAUSED;
@@ -25,20 +24,18 @@ struct Ended {
     at: usize,
 }
 
-// A block, whose code is one part of the code table that starts at its first instruction. The code has room words from there on: Q22
-// asks whether an offset is below, apart for the last instruction, so that a block of one does not wait for both tests. The word is
-// read before the last is told from the others, so that reading it waits for neither.
+// A block, whose code is one part of the code table. The word is read before the last is told from the others, so that reading it does
+// not wait for that.
 fn run_block(
     rows: &[u32; 13],
     part: &[u32],
-    room: usize,
     registers: &mut [u32; 8],
     memory: &mut [u32],
     b: u32,
     count: u32,
 ) -> Ended
     requires { ⌜ (now rows ≡ opcodeRows) × (1 ≤ length (now part)) × (b < 4294967295) ⌝ }
-    ensures steps { λ r. ⌜ ((P : Routine) (f n : ℕ) → P .count ≡ count → Covers P b (now (part .entry)) room
+    ensures steps { λ r. ⌜ ((P : Routine) (f n : ℕ) → P .count ≡ count → Covers P b (now (part .entry))
         → exitOf (r .exit) (at b (r .at) (now (registers .exit)) (now (memory .exit)) f (n + r .at))
         ≡ steps P (P .long b) (at b 0 (now (registers .entry)) (now (memory .entry)) f n)) ⌝ }
     ensures place { λ r. ⌜ r .at < length (now (part .entry)) ⌝ }
@@ -48,20 +45,8 @@ fn run_block(
     loop {
         let w = part[i];
         if i == last {
-            if room <= last {
-                return Ended {
-                    exit: Exit::No(CODE_INDEX),
-                    at: i,
-                };
-            }
             let exit = step::leave(rows, registers, w, b, count);
             return Ended { exit, at: i };
-        }
-        if room <= i {
-            return Ended {
-                exit: Exit::No(CODE_INDEX),
-                at: i,
-            };
         }
         let number = step::advance(rows, registers, memory, w);
         if number != PASSED {
@@ -112,16 +97,7 @@ fn run_blocks(
     let mut finished = 0;
     while finished < budget {
         let end = starts[b as usize + 1] as usize;
-        let room = code.len() - first;
-        let e = run_block(
-            &rows,
-            &code[first..end],
-            room,
-            &mut current,
-            memory,
-            b,
-            count,
-        );
+        let e = run_block(&rows, &code[first..end], &mut current, memory, b, count);
         let index = (first + e.at) as u32;
         let exit = e.exit;
         match exit {

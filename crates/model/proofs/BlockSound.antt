@@ -1,14 +1,13 @@
 -- A block of an accepted routine: each instruction is carried out, and the block's end leads to registers and memory in type.
 use mathlib.Core.Path.{_≡_, refl, sym, ap, subst, _∙_}
-use mathlib.Core.Logic.{_⊎_, inl, inr}
-use mathlib.Core.Bool.{Bool, true, false, not, false≢true}
-use mathlib.Core.List.{List, [], _∷_}
-use Prim.Native.Nat.{ℕ, zero, suc, _+_, _-_, _*_, _/_, _%_, _^_, _≤_, _<_}
+use mathlib.Core.Bool.{false}
+use mathlib.Core.List.{List}
+use Prim.Native.Nat.{ℕ, zero, suc, _+_, _-_, _*_, _/_, _%_, _^_, _<_}
 use native.Mathlib.Omega.{arith}
 use native.Mathlib.Nat.{add-zero, zero-add}
-use lib.Dec.{ltb, eqb}
+use lib.Dec.{ltb}
 use lib.ListN.{length, getD}
-use borrow.Author.Tests.{ltb-true, lt-ltb, le-ltb, eqb-true, eqb-false}
+use borrow.Author.Tests.{lt-ltb, le-ltb, eqb-true, eqb-false}
 use Rattle.model.specs.declared.Reference.the-variants.{To}
 use Rattle.model.specs.Question.{pick, Outcome, ok, provided}
 use Rattle.model.specs.Word.{sum}
@@ -16,17 +15,16 @@ use Rattle.model.specs.Table.{Tables, Routine, lastAt}
 use Rattle.model.specs.Meaning.{Allocation}
 use Rattle.model.specs.Machine.{Plain, load, store, End, Instruction, plain, end, malformed, instructionAt, reg, effect, registersAfter}
 use Rattle.model.specs.Machine.{memoryAfter, Next, stop, enter, next, State, goes, halts, after, atHalt, entering, leave, perform, step}
-use Rattle.model.specs.Machine.{indexOf, carryOut, formAsk}
+use Rattle.model.specs.Machine.{carryOut, formAsk}
 use Rattle.model.specs.Reading.{Reading, entry, isOpen}
 use Rattle.model.specs.Check.{onRecord, readPlain, readInstruction, readAt, readOn, blockAsk, readingAt, referenceIn, noAt, readEnd}
-use Rattle.model.proofs.Logic.{byTest, byEqual, ask-ok, then-ok, passed-then, ok-then, ok-same, not-ok, not-true}
-use Rattle.model.proofs.Inversion.{OnRecord, record-ok}
+use Rattle.model.proofs.Logic.{ask-ok, then-ok, passed-then, ok-then, ok-same, not-ok, not-true}
+use Rattle.model.proofs.Inversion.{record-ok}
 use Rattle.model.proofs.Tidy.{Tidy, plain-tidy, entry-tidy}
-use Rattle.model.proofs.Mean.{TyBelow}
 use Rattle.model.proofs.Lawful.{Lawful, Tabled}
 use Rattle.model.proofs.Decode.{Fine, PlainFine, EndFine, decode-fine}
 use Rattle.model.proofs.Invariant.{Invariant}
-use Rattle.model.proofs.StepSound.{wordsMade, Made, Sound, Access, access-ok, plain-sound}
+use Rattle.model.proofs.StepSound.{wordsMade, Made, access-ok, plain-sound}
 use Rattle.model.proofs.TableLaws.{Sized, Annotated}
 use Rattle.model.proofs.EdgeSound.{Stands, MemoryFit, Went, entry-ok, edges-ok}
 
@@ -158,9 +156,6 @@ module _ (𝒯 : Tables) (Is : Allocation) (memory₀ : List ℕ) (narrow : leng
   readHere s x st =
       readInstruction 𝒯 P (noAt 𝒯 P (s .block) (s .offset)) (s .block) (suc (s .offset)) (lastAt P (s .block) (s .offset)) x st
 
-  index-inside : (s : State) → At s → ltb (indexOf P s) (P .total) ≡ true
-  index-inside s a = lt-ltb (indexOf P s) (P .total) (let x = S .inside (s .block) (a .exists) in let y = a .within in omega arith)
-
   plain-step : (s : State) (a : At s) (x : Plain) (st' : Reading) → instructionAt P (s .block) (s .offset) ≡ plain x → PlainFine x
       → readHere s (plain x) (a .reading) ≡ ok st' → Stepped s
   unfolding readInstruction formAsk step perform carryOut provided readingAt trace
@@ -174,7 +169,7 @@ module _ (𝒯 : Tables) (Is : Allocation) (memory₀ : List ℕ) (narrow : leng
       λ i h. valuation-made P (s .block) (a .origin) (s .offset) i h ∙ rw (e, a .regs, a .mem) in
       let K = plain-sound 𝒯 Is memory₀ narrow law tab ρ _ (suc (s .offset)) x (a .reading) st' (s .registers) (s .memory)
       (omega arith) small f (a .tidy) (a .mirrors) made q₁ in
-      inner {s' = after s (effect x (s .registers))} (rw (index-inside s a, e, notEnd, K .runs)) refl refl refl
+      inner {s' = after s (effect x (s .registers))} (rw (e, notEnd, K .runs)) refl refl refl
       (record {
         exists = a .exists;
         within = later;
@@ -206,7 +201,7 @@ module _ (𝒯 : Tables) (Is : Allocation) (memory₀ : List ℕ) (narrow : leng
       let M = shut-fit (a .reading) ρ (s .registers) (s .memory) (not-true _ shut) (a .mirrors) in
       let W = edges-ok 𝒯 Is memory₀ narrow law tab ρ P A _ (a .reading) (s .registers) (s .memory) (suc (s .offset)) (s .block) e f
       (a .mirrors) (a .tidy) there edges in
-      go (next e (s .block) (s .registers)) (rw (index-inside s a, i, last, there)) (eqb-true _ _ last) M W
+      go (next e (s .block) (s .registers)) (rw (i, last, there)) (eqb-true _ _ last) M W
     where
       go : (n : Next) → step P s ≡ leave s n → suc (s .offset) ≡ P .long (s .block) → MemoryFit 𝒯 Is memory₀ (s .memory)
           → Went 𝒯 Is P (s .registers) n → Stepped s

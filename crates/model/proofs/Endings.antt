@@ -1,16 +1,18 @@
--- What demands 1 and 2 assume of an answer can be met: each way in which a run ends, and a first no of each check, by an example.
+-- What demands 1 and 2 assume of an answer, and card 6 of a run, can be met: each way in which a run ends, and a first no of each check,
+-- by an example.
 use mathlib.Core.Path.{_≡_, refl}
 use mathlib.Core.List.{List, [], _∷_, _++_}
-use Prim.Native.Nat.{ℕ}
+use Prim.Native.Nat.{ℕ, _<_}
 use Rattle.model.specs.Question.{q19, q20, q21, refusal}
-use Rattle.model.specs.Table.{Code, codeOf}
-use Rattle.model.specs.Machine.{Run, Ready, ready, run}
+use Rattle.model.specs.Table.{Code, codeOf, routineOf}
+use Rattle.model.specs.Machine.{indexOf, Run, Ready, ready, run}
 use Rattle.model.specs.Faults.{NeverBegins, Halts, Faults}
 use Rattle.model.specs.Exactness.{Finishes, MemoryNo, EntryNo}
 use Rattle.model.specs.Cases.{plotTypes, plotTags, row, refWord, storeWord, loadWord, jumpWord, haltWord}
 use Rattle.model.proofs.Compute.{computed}
 use Rattle.model.proofs.Example.{allocations, memory}
 use Rattle.model.proofs.RunEnds.{run-keeps, run-exact}
+use Rattle.model.proofs.CodeIndex.{index-inside}
 use Rattle.model.proofs.Exact.{memory-names, entry-names}
 
 -- ---- runs: block 0 goes to block 1, which stores r5 at r1, loads from r6 and halts
@@ -73,6 +75,16 @@ no-block = refl
 pub refusal-met : NeverBegins code memory (ready 2 (with-address 10)) 5 (run code memory (ready 2 (with-address 10)) 5)
 unfolding computed
 refusal-met = run-keeps code memory (ready 2 (with-address 10)) 5 .opening .0 refl
+
+-- ---- past Q5 and Q16 the code index is inside the code, at the fault and in the answer of the halt
+
+pub index-met : indexOf (routineOf code) (fault-met .state) < 4
+unfolding computed
+index-met = index-inside .below code memory (start 10) 5 refl refl (fault-met .state) (fault-met .through)
+
+pub answer-met : run code memory (start 9) 5 .index < 4
+unfolding computed
+answer-met = index-inside .answered code memory (start 9) 5 refl
 
 -- ---- checks
 

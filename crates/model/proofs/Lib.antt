@@ -23,6 +23,7 @@ pub mod MachineLaws
 pub mod MeetsDecide
 pub mod RunSound
 pub mod RunCalls
+pub mod CodeIndex
 pub mod RunEnds
 pub mod Exactly
 pub mod ReadingStates

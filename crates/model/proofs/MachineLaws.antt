@@ -1,21 +1,20 @@
 -- Laws of the machine for any routine: where a step leads, that a run ends where its last step does, and that it can be gone on with.
-use mathlib.Core.Path.{_≡_, refl, sym, ap, subst, _∙_}
-use mathlib.Core.Logic.{_⊎_, inl, inr}
-use mathlib.Core.Bool.{Bool, true, false, not, false≢true}
-use mathlib.Core.List.{List, [], _∷_}
+use mathlib.Core.Path.{_≡_, refl, sym, subst, _∙_}
+use mathlib.Core.Bool.{Bool, true, false}
+use mathlib.Core.List.{List}
 use Prim.Native.Nat.{ℕ, zero, suc, _+_, _-_, _≤_, _<_}
 use native.Mathlib.Omega.{arith}
-use native.Mathlib.Nat.{add-zero, zero-add, suc-add}
+use native.Mathlib.Nat.{zero-add, suc-add}
 use lib.Dec.{ltb, eqb}
-use lib.ListN.{length, getD, set, length-set}
-use borrow.Author.Tests.{ltb-true, lt-ltb, eqb-true, eqb-false}
-use Rattle.model.specs.Question.{_and_, Question, q7, q8, q9, q18, q22, provided, pick}
+use lib.ListN.{length, length-set}
+use borrow.Author.Tests.{ltb-true, eqb-true, eqb-false}
+use Rattle.model.specs.Question.{_and_, Question, q7, q8, q9, q18, provided, pick}
 use Rattle.model.specs.Table.{Routine}
 use Rattle.model.specs.Machine.{End, halt, jump, ifEqual, ifLess, Instruction, plain, end, malformed, instructionAt, Effect, put, read, write}
 use Rattle.model.specs.Machine.{effect, registersAfter, memoryAfter, Next, stop, enter, next, targetsExist, State, Step, goes, halts, faults}
 use Rattle.model.specs.Machine.{need, after, atHalt, entering, leave, indexOf, perform, step, Passes, here, on, Ran, halted, paused, faulted}
 use Rattle.model.specs.Machine.{onward, finish, steps, runBlocks, carryOut, formAsk, reg, Plain}
-use Rattle.model.proofs.Logic.{byTest, and-true, not-true, pick-both}
+use Rattle.model.proofs.Logic.{and-true, not-true}
 use Rattle.model.proofs.TableLaws.{Sized}
 
 -- ---- one step, taken apart
@@ -44,7 +43,6 @@ pub data OfCode : Question → Type 0 where
   of-8 : OfCode q8
   of-9 : OfCode q9
   of-18 : OfCode q18
-  of-22 : OfCode q22
 
 -- the state is before its block's last instruction
 abbrev pub AtLast : Routine → State → Type 0
@@ -100,7 +98,7 @@ module _ (P : Routine) where
 
   pub leads : (s : State) → Leads P s (instructionOf s) (step P s)
   unfolding step
-  leads s = need-leads s (instructionOf s) _ _ _ of-22 (λ q. performs s (instructionOf s))
+  leads s = performs s (instructionOf s)
 
   fault-inverts : (s s' : State) (q : Question) → step P s ≡ faults q s' → (s' ≡ s) × OfCode q
   fault-inverts s s' q e = go (step P s) (leads s) e
@@ -173,6 +171,18 @@ module _ (P : Routine) (S : Sized P) where
       go x (finally i l) e = absurd (goes-halts (sym e))
       go x (nowhere q o) e = absurd (goes-faults (sym e))
 
+  -- and of the state that several steps lead to
+  pub steps-visited : (n : ℕ) (s₀ s s' : State) → Visited P s₀ s → goes s' ≡ steps P n s → Visited P s₀ s'
+  unfolding steps onward
+  steps-visited zero s₀ s s' A e = let z : s' ≡ s = cc in rw z A
+  steps-visited (suc n) s₀ s s' A e = go (step P s) refl (λ t B. steps-visited n s₀ t s' B) e
+    where
+      go : (x : Step) → step P s ≡ x → ((t : State) → Visited P s₀ t → goes s' ≡ steps P n t → Visited P s₀ s')
+          → goes s' ≡ onward x (λ t. steps P n t) → Visited P s₀ s'
+      go (goes t) p rest e = rest t (visited-step s₀ s t A p) e
+      go (halts t) p rest e = absurd (goes-halts e)
+      go (faults q t) p rest e = absurd (goes-faults e)
+
   pub visited-here : (s : State) → s .block < P .count → s .offset ≡ 0 → Visited P s s
   visited-here s h z =
       record {
@@ -188,7 +198,7 @@ module _ (P : Routine) (S : Sized P) where
   visited last s₀ s h z here = visited-here s₀ h z
   visited last s₀ s h z (on {s₁ = s₁} p l e) = visited-step s₀ s₁ s (visited last s₀ s₁ h z p) e
 
-  -- The index is always below the code length: Q22 never has a no in a run past Q5 and Q16.
+  -- the index is always below the code length
   pub index-below : (last : ℕ) (s₀ s : State) → s₀ .block < P .count → s₀ .offset ≡ 0 → Passes P last s₀ s → indexOf P s < P .total
   index-below last s₀ s h z p =
       let A = visited last s₀ s h z p in
@@ -326,7 +336,7 @@ module _ (P : Routine) (f c : ℕ) where
 
   step-later : (s : State) → step P (later f c s) ≡ laterStep f c (step P s)
   unfolding step
-  step-later s = need-later _ _ s _ _ (perform-later (instructionAt P (s .block) (s .offset)) s)
+  step-later s = perform-later (instructionAt P (s .block) (s .offset)) s
 
   onward-later : (x : Step) (k : State → Step) → ((s : State) → k (later f c s) ≡ laterStep f c (k s)) → onward (laterStep f c x) k ≡ laterStep f c (onward x k)
   unfolding onward laterStep

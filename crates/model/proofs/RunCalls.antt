@@ -8,11 +8,11 @@ use lib.ListN.{length}
 use borrow.Author.Tests.{ltb-true, lt-ltb}
 use Rattle.model.specs.Question.{Question, numberOf, questionOf, Outcome, ok, refused}
 use Rattle.model.specs.Table.{Routine, routineOf, codeLengthsAsk, lengthsAsk, startAsk, memoryLengthAsk, Code}
-use Rattle.model.specs.Machine.{State, indexOf, Passes, here, Ran, halted, paused, faulted, runBlocks, Run, answerAt, answerOf, runAsk, begin}
+use Rattle.model.specs.Machine.{State, here, Ran, halted, paused, faulted, runBlocks, Run, answerAt, answerOf, runAsk, begin}
 use Rattle.model.specs.Machine.{opened, run, Ready, ready, runQuestions}
 use Rattle.model.proofs.Logic.{no-number, ask-ok, ok-ask, all-passed, passed-all}
 use Rattle.model.proofs.TableLaws.{Sized, sized}
-use Rattle.model.proofs.MachineLaws.{visited, index-below, Last, pausing, halting}
+use Rattle.model.proofs.MachineLaws.{visited, Last, pausing, halting}
 use Rattle.model.proofs.MachineLaws.{faulting, blocks-last, halt-stays, resume, blocks-plus, later, laterRan, blocks-later}
 
 -- ---- the opening questions
@@ -45,13 +45,6 @@ pub run-last : (C : Code) (memory : List ℕ) (g : Ready) (k : ℕ) → Opens C 
     → Last (routineOf C) k (begin g memory) (runBlocks (routineOf C) k (begin g memory))
 run-last C memory g k O =
     blocks-last (routineOf C) (sized C (O .lengths)) k (begin g memory) k (begin g memory) here (zero-add k) (O .exists) refl
-
--- a run past its opening questions always has its index below the code length
-pub run-index : (C : Code) (memory : List ℕ) (g : Ready) (k : ℕ) → runAsk C memory (g .block) ≡ ok tt
-    → (s : State) → Passes (routineOf C) k (begin g memory) s → indexOf (routineOf C) s < routineOf C .total
-run-index C memory g k q s p =
-    let O = opens C memory (g .block) q in
-    index-below (routineOf C) (sized C (O .lengths)) k (begin g memory) s (O .exists) refl p
 
 -- ---- a run that carried nothing out
 

@@ -18,7 +18,7 @@ use Rattle.model.specs.Faults.{EndsAndKeeps, Demand1}
 use Rattle.model.specs.Exactness.{Finishes, ShowsNothing, RunExact}
 use Rattle.model.proofs.Logic.{either, or-of-true, not-ok, refused-same, all-passed, passed-all, first-refused, refused-first}
 use Rattle.model.proofs.TableLaws.{sized}
-use Rattle.model.proofs.MachineLaws.{goes-same, goes-halts, goes-faults, halts-faults, OfCode, of-7, of-8, of-9, of-18, of-22, fault-asks}
+use Rattle.model.proofs.MachineLaws.{goes-same, goes-halts, goes-faults, halts-faults, OfCode, of-7, of-8, of-9, of-18, fault-asks}
 use Rattle.model.proofs.MachineLaws.{visited, halt-stays, Last, pausing as last-pause, halting as last-halt, faulting as last-fault}
 use Rattle.model.proofs.RunCalls.{Opens, opens, run-is, run-last}
 
@@ -216,7 +216,6 @@ module _ (C : Code) (memory : List ℕ) (g : Ready) (budget : ℕ) where
   code-number q of-8 = (refl, refl)
   code-number q of-9 = (refl, refl)
   code-number q of-18 = (refl, refl)
-  code-number q of-22 = (refl, refl)
 
   fault-number : (a : Run) → Faults C memory g budget a → (isOpening (a .number) ≡ false) × (isFault (a .number) ≡ true)
   fault-number a F = rw (F .answer) (code-number _ (fault-asks (routineOf C) _ _ _ (F .fault)))

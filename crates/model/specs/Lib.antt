@@ -5,6 +5,7 @@ pub mod Table
 pub mod Meaning
 pub mod Allocation
 pub mod Machine
+pub mod CodeIndex
 pub mod Rules
 pub mod ReadingRules
 pub mod Reading

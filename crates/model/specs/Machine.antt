@@ -6,7 +6,7 @@ use Prim.Native.Nat.{ℕ, zero, suc, _+_, _/_, _%_, _<_}
 use lib.Dec.{ltb, leb, eqb}
 use lib.ListN.{length, getD, set}
 use Rattle.model.specs.declared.RunAnswer.{RunAnswer}
-use Rattle.model.specs.Question.{_and_, pick, Question, numberOf, q7, q8, q9, q18, q22, Refusal, provided, Outcome, ok, refused, inOrder}
+use Rattle.model.specs.Question.{_and_, pick, Question, numberOf, q7, q8, q9, q18, Refusal, provided, Outcome, ok, refused, inOrder}
 use Rattle.model.specs.Word.{opcodeOf, aOf, bOf, cOf, sum, difference, product, signed, moved}
 use Rattle.model.specs.Table.{registerCount, Code, Routine, routineOf, lastAt, codeLengthsAsk, lengthsAsk, startAsk, memoryLengthAsk}
 
@@ -223,9 +223,9 @@ module _ (P : Routine) where
       formAsk (λ q. faults q s) (P .count) (s .block) (lastAt P (s .block) (s .offset))
       (λ y. carryOut y s) (λ e. leave s (next e (s .block) (s .registers))) x
 
-  -- 01: 'then each instruction: Q22 code index below the code length? 22; Q7, Q8, Q9; Q18 address below the memory length? 18'
+  -- 01: 'then each instruction: .. Q7, Q8, Q9; Q18 address below the memory length? 18'. 02, card 6: 'take Q22 out of the run'
   unfoldable pub step : State → Step
-  step s = need (ltb (indexOf s) (P .total)) q22 s λ _. perform (instructionAt (s .block) (s .offset)) s
+  step s = perform (instructionAt (s .block) (s .offset)) s
 
   -- The states that a run passes through from a state on, one instruction after another, while fewer than so many blocks are
   -- finished.

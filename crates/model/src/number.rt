@@ -1,5 +1,8 @@
 // The numbers of document 01: of each question, and of the answers where no question has a no. A question's name is the one that the table
 // of words gives its answer.
+ghost use mathlib.Core.Path.{_≡_};
+ghost use mathlib.Core.List.{map};
+ghost use Rattle.model.specs.Question.{numberOf, questions};
 
 // 'A check without a no gives 0 at 0, 0': no question has a no.
 pub const PASSED: u32 = 0;
@@ -79,5 +82,35 @@ pub const FIELD: u32 = 20;
 // Q21 'does each register meet that block's annotation?'
 pub const REGISTER: u32 = 21;
 
-// Q22 'code index below the code length?'
-pub const CODE_INDEX: u32 = 22;
+// Document 02 took question 22 out: 22 is the number of none, and is given to no other.
+
+// ---- all of them
+
+// The numbers of the questions, in order.
+pub fn questions() -> [u32; 21]
+    ensures { λ r. ⌜ r ≡ map numberOf questions ⌝ }
+{
+    [
+        TABLE_LENGTH,
+        FIELD_COUNT,
+        FIELD_TYPE,
+        TAG,
+        BLOCK_LENGTH,
+        ANNOTATION,
+        INSTRUCTION,
+        BLOCK_END,
+        TARGET,
+        REFERENCE,
+        OFFSET,
+        OTHER_RECORD,
+        OPEN_RECORD,
+        TAKEN_EDGE,
+        UNTAKEN_EDGE,
+        START_BLOCK,
+        MEMORY_LENGTH,
+        ADDRESS,
+        ALLOCATION,
+        FIELD,
+        REGISTER,
+    ]
+}

@@ -56,11 +56,12 @@ fn numbered(out: &mut [u8; output::BUFFER], n: usize, row: u32) -> usize {
 
 // The rows of the questions.
 fn numbers(out: &mut [u8; output::BUFFER], n: usize) -> usize {
+    let rows = number::questions();
     let mut at = n;
-    let mut row = number::TABLE_LENGTH;
-    while row <= words::LAST {
-        at = numbered(out, at, row);
-        row += 1;
+    let mut i = 0;
+    while i < rows.len() {
+        at = numbered(out, at, rows[i]);
+        i += 1;
     }
     at
 }

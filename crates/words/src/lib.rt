@@ -9,10 +9,8 @@ ghost use Rattle.telling.specs.Told.{Told};
 use model::number;
 use telling::Asked;
 
-// ---- the rows
+// ---- the rows beside those of the questions, which have their numbers
 
-// The last number of a question; the first is 1.
-pub const LAST: u32 = number::CODE_INDEX;
 // A run's 0; a check's is row 0.
 pub const HALTED: u32 = 100;
 // A line that is no request.
@@ -29,7 +27,7 @@ fn later(out: &mut [u8; output::BUFFER], n: usize, a: Asked) -> usize
     if row <= number::FIELD {
         return rows::records(out, n, a);
     }
-    if row <= LAST {
+    if row <= number::REGISTER {
         return rows::registers(out, n, a);
     }
     if row == number::PAUSED {

@@ -320,7 +320,7 @@ pub fn records(out: &mut [u8; output::BUFFER], n: usize, a: Asked) -> usize
     said(out, n, a, b"")
 }
 
-// Registers; the code index.
+// Registers.
 pub fn registers(out: &mut [u8; output::BUFFER], n: usize, a: Asked) -> usize
     requires { ⌜ n + 16384 ≤ buffer ⌝ }
     ensures { λ r. ⌜ Told (saidText a) (now (out .entry)) n r (now (out .exit)) ⌝ }
@@ -335,18 +335,6 @@ pub fn registers(out: &mut [u8; output::BUFFER], n: usize, a: Asked) -> usize
               a pointer to a record of another type, or a register left at 0|\
               hand in what the annotation asks for|\
               register A",
-        );
-    }
-    if a.number == number::CODE_INDEX {
-        return said(
-            out,
-            n,
-            a,
-            b"code index|\
-              a run's code index is past the code|\
-              none: numbers 5, 8, 9 and 16 keep a run inside its code|\
-              nothing to mend: no request is answered so|\
-              block A, code index B",
         );
     }
     said(out, n, a, b"")

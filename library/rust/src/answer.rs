@@ -2,8 +2,9 @@
 
 use std::fmt;
 
-/// What a call answers. 0 has two: a check that passed, and a run that halted.
+/// What a call answers. 0 has two: a check that passed, and a run that halted. Later versions may have more answers.
 #[derive(Clone, Copy, Debug, PartialEq, Eq, Hash)]
+#[non_exhaustive]
 pub enum Answer {
     Passed,
     Halted,
@@ -28,7 +29,6 @@ pub enum Answer {
     Allocation,
     Field,
     Register,
-    CodeIndex,
     Paused,
 }
 
@@ -44,7 +44,7 @@ const fn row(answer: Answer, number: u32, name: &'static str, meaning: &'static 
 }
 
 // In the order of the enum, so that an answer is the place of its row. A test holds name and meaning against docs/REFUSALS.md.
-const ROWS: [Row; 25] = [
+const ROWS: [Row; 24] = [
     row(Answer::Passed, 0, "passed", "no question of the check has a no"),
     row(Answer::Halted, 0, "halted", "the run carried out a halt"),
     row(
@@ -118,7 +118,6 @@ const ROWS: [Row; 25] = [
     ),
     row(Answer::Field, 20, "field", "a word of a record does not meet its field's type"),
     row(Answer::Register, 21, "register", "a register does not meet the annotation of the block to start at"),
-    row(Answer::CodeIndex, 22, "code index", "a run's code index is past the code"),
     row(Answer::Paused, 40, "paused", "the budget of blocks is finished, and the routine has not halted"),
 ];
 

@@ -8,25 +8,25 @@ use Rattle.model.specs.Table.{Routine}
 use Rattle.model.specs.Machine.{steps}
 use Rattle.step.specs.Answer.{at}
 use Rattle.machine.specs.Run.{Covers}
-use Rattle.machine.proofs.Blocks.{no-code, ends, goes-on, stops}
+use Rattle.machine.proofs.Blocks.{ends, goes-on, stops}
 use borrow.Author.Needs.{needs}
 use Rattle.machine.proofs.run_block.Statement.{statement}
 use Rattle.machine.proofs.run_block.Tie as tie
 
 abbrev Inv-loop : tie.InvT-loop
-Inv-loop rows part room registers₀ memory₀ b count last i₀ registers memory i =
-    ((P : Routine) (f n : ℕ) → Covers P b part room
+Inv-loop rows part registers₀ memory₀ b count last i₀ registers memory i =
+    ((P : Routine) (f n : ℕ) → Covers P b part
     → steps P (P .long b) (at b 0 registers₀ memory₀ f n) ≡ steps P (length part - i) (at b i registers memory f (n + i)))
     × (i < length part)
     × (length memory ≡ length memory₀)
 
 abbrev μ-loop : tie.MeasureT-loop
-μ-loop rows part room registers₀ memory₀ b count last i₀ registers memory i = length part - i
+μ-loop rows part registers₀ memory₀ b count last i₀ registers memory i = length part - i
 
 -- ---- a round of the loop, where it is past an instruction
 
 abbrev round : tie.After-advance Inv-loop μ-loop → tie.At-loop Inv-loop μ-loop
-round c = c .before .before .before .before .before .before
+round c = c .before .before .before .before .before
 
 -- ---- the needs
 
@@ -42,50 +42,34 @@ mul-w c = omega arith
 shared-slice-read-w : tie.Need-shared-slice-read-w Inv-loop μ-loop
 shared-slice-read-w c = omega arith
 
-same-length : tie.Need-same-length Inv-loop μ-loop
-same-length c = c .before .before .before .loop .inv .2
-
-returns : tie.Need-returns Inv-loop μ-loop
-returns c =
-    let l = c .before .before .before .loop in
-    (λ P f n ec C. no-code P _ _ _ f C (l .i) (n + l .i) _ _ (l .inv .1) (omega arith) ∙ sym (l .inv .0 P f n C), l .inv .1)
-
 leave-requires : tie.Need-leave-requires Inv-loop μ-loop
 leave-requires c κs = search needs
 
-same-length-2 : tie.Need-same-length-2 Inv-loop μ-loop
-same-length-2 c = c .before .before .before .before .before .loop .inv .2
+same-length : tie.Need-same-length Inv-loop μ-loop
+same-length c = c .before .before .before .before .loop .inv .2
 
-returns-2 : tie.Need-returns-2 Inv-loop μ-loop
-returns-2 c =
-    let l = c .before .before .before .before .before .loop in (
+returns : tie.Need-returns Inv-loop μ-loop
+returns c =
+    let l = c .before .before .before .before .loop in (
       λ P f n ec C.
-          ends P _ _ _ f C (l .i) (n + l .i) _ _ (omega arith) (omega arith) _
+          ends P _ _ f C (l .i) (n + l .i) _ _ (omega arith) _
           (c .leave .ensures P (l .i) f (n + l .i) _ ec (omega (arith, C .long))) ∙ sym (l .inv .0 P f n C),
       l .inv .1,
     )
 
-same-length-3 : tie.Need-same-length-3 Inv-loop μ-loop
-same-length-3 c = c .before .before .before .loop .inv .2
-
-returns-3 : tie.Need-returns-3 Inv-loop μ-loop
-returns-3 c =
-    let l = c .before .before .before .loop in
-    (λ P f n ec C. no-code P _ _ _ f C (l .i) (n + l .i) _ _ (l .inv .1) (omega arith) ∙ sym (l .inv .0 P f n C), l .inv .1)
-
 advance-requires : tie.Need-advance-requires Inv-loop μ-loop
 advance-requires c κs = search needs
 
-same-length-4 : tie.Need-same-length-4 Inv-loop μ-loop
-same-length-4 c = let k = c .before .before .before in k .advance .kept .1 .1 .0 ∙ round k .loop .inv .2
+same-length-2 : tie.Need-same-length-2 Inv-loop μ-loop
+same-length-2 c = let k = c .before .before .before in k .advance .kept .1 .1 .0 ∙ round k .loop .inv .2
 
-returns-4 : tie.Need-returns-4 Inv-loop μ-loop
-returns-4 c =
+returns-2 : tie.Need-returns-2 Inv-loop μ-loop
+returns-2 c =
     let k = c .before .before .before in
     let l = round k .loop in (
       λ P f n ec C.
-          stops P _ _ _ f C (l .i) (n + l .i) _ _ _ _ _ (l .inv .1) (omega arith)
-          (k .advance .ensures P _ (l .i) f (n + l .i) (λ z. omega (arith, C .long))) (c .if4 .taken) ∙ sym (l .inv .0 P f n C),
+          stops P _ _ f C (l .i) (n + l .i) _ _ _ _ _ (l .inv .1)
+          (k .advance .ensures P _ (l .i) f (n + l .i) (λ z. omega (arith, C .long))) (c .if2 .taken) ∙ sym (l .inv .0 P f n C),
       l .inv .1,
     )
 
@@ -100,8 +84,8 @@ loop-again c =
     let k = c .before .before .before in
     let l = round k .loop in (
       λ P f n C.
-          l .inv .0 P f n C ∙ goes-on P _ _ _ f C (l .i) (n + l .i) _ _ _ _ _ (l .inv .1) (omega arith)
-          (k .advance .ensures P _ (l .i) f (n + l .i) (λ z. omega (arith, C .long))) (c .if4 .left) ∙ rw (add-assoc n (l .i) 1),
+          l .inv .0 P f n C ∙ goes-on P _ _ f C (l .i) (n + l .i) _ _ _ _ _ (l .inv .1)
+          (k .advance .ensures P _ (l .i) f (n + l .i) (λ z. omega (arith, C .long))) (c .if2 .left) ∙ rw (add-assoc n (l .i) 1),
       omega arith,
       k .advance .kept .1 .1 .0 ∙ l .inv .2,
     )
@@ -116,16 +100,12 @@ run-block-spec =
     loop-holds
     mul-w
     shared-slice-read-w
+    leave-requires
     same-length
     returns
-    leave-requires
+    advance-requires
     same-length-2
     returns-2
-    same-length-3
-    returns-3
-    advance-requires
-    same-length-4
-    returns-4
     add-i
     loop-less
     loop-again)

@@ -75,7 +75,7 @@ first c = c .before .loop .first
 abbrev part : tie.In-loop Inv-loop μ-loop → List ℕ
 part c = take (getD (starts (c .before)) (block c + 1) 0 - first c) (drop (first c) (code (c .before)))
 
-covered : (c : tie.In-loop Inv-loop μ-loop) → Covers (routine (c .before)) (block c) (part c) (length (code (c .before)) - first c)
+covered : (c : tie.In-loop Inv-loop μ-loop) → Covers (routine (c .before)) (block c) (part c)
 covered c =
     let l = c .before in
     covers (tables l) (start l .pre .lengths) _ _ _ (omega arith) (l .loop .inv .5) (starts-at l (block c + 1) (omega arith))
@@ -114,7 +114,7 @@ entered c = let l = here c .before .loop in at (l .b) 0 (l .current) (l .memory)
 abbrev left : tie.After-run-block Inv-loop μ-loop → State
 left c =
     let e = c .run-block in
-    at (block (here c)) (e .result .at) (e .last .1 .1 .1 .0) (e .last .1 .1 .1 .1 .0) (here c .before .loop .finished) (0 + e .result .at)
+    at (block (here c)) (e .result .at) (e .last .1 .1 .0) (e .last .1 .1 .1 .0) (here c .before .loop .finished) (0 + e .result .at)
 
 -- what it came to
 block-ran : (c : tie.After-run-block Inv-loop μ-loop)
@@ -124,7 +124,7 @@ block-ran c = c .run-block .ensures .0 _ _ 0 (routine-count _) (covered (here c)
 
 -- memory keeps its length
 kept : (c : tie.After-run-block Inv-loop μ-loop) → length (left c .memory) ≡ length (now (start (here c .before) .args .memory))
-kept c = c .run-block .kept .1 .1 .1 .1 .0 ∙ here c .before .loop .inv .3
+kept c = c .run-block .kept .1 .1 .1 .0 ∙ here c .before .loop .inv .3
 
 -- where the exit is told apart
 abbrev exited : tie.After-struct-known Inv-loop μ-loop → tie.After-run-block Inv-loop μ-loop
@@ -199,9 +199,6 @@ element-copy-out-end c = omega arith
 
 cast-end-2 : tie.Need-cast-end-2 Inv-loop μ-loop
 cast-end-2 c = omega (arith, placed (c .before))
-
-sub-room : tie.Need-sub-room Inv-loop μ-loop
-sub-room c = omega (arith, placed (c .before))
 
 mul-run-block : tie.Need-mul-run-block Inv-loop μ-loop
 mul-run-block c = omega (arith, placed (c .before .before))
@@ -347,7 +344,6 @@ run-blocks-spec =
     mul-end
     element-copy-out-end
     cast-end-2
-    sub-room
     mul-run-block
     sub-run-block
     part-run-block-start

@@ -6,19 +6,28 @@ use Rattle.refusals.proofs.numbers.Statement.{statement}
 use Rattle.refusals.proofs.numbers.Tie as tie
 
 abbrev Inv-loop : tie.InvT-loop
-Inv-loop out₀ n at₀ row₀ out at row = Unit {0}
+Inv-loop out₀ n rows at₀ i₀ out at i = Unit {0}
 
 abbrev μ-loop : tie.MeasureT-loop
-μ-loop out₀ n at₀ row₀ out at row = 23 - row
+μ-loop out₀ n rows at₀ i₀ out at i = 21 - i
+
+questions-requires : tie.Need-questions-requires Inv-loop μ-loop
+questions-requires c κs = tt
 
 loop-holds : tie.Need-loop-holds Inv-loop μ-loop
 loop-holds c = tt
 
+mul-numbered : tie.Need-mul-numbered Inv-loop μ-loop
+mul-numbered c = omega arith
+
+array-read-numbered : tie.Need-array-read-numbered Inv-loop μ-loop
+array-read-numbered c = omega arith
+
 numbered-requires : tie.Need-numbered-requires Inv-loop μ-loop
 numbered-requires c κs = search needs
 
-add-row : tie.Need-add-row Inv-loop μ-loop
-add-row c = omega arith
+add-i : tie.Need-add-i Inv-loop μ-loop
+add-i c = omega arith
 
 loop-less : tie.Need-loop-less Inv-loop μ-loop
 loop-less c = omega arith
@@ -35,9 +44,12 @@ numbers-spec =
     (tie.spec
     Inv-loop
     μ-loop
+    questions-requires
     loop-holds
+    mul-numbered
+    array-read-numbered
     numbered-requires
-    add-row
+    add-i
     loop-less
     loop-again
     returns)

@@ -1,4 +1,4 @@
--- `rows::registers` meets its contract: the rows of registers and the code index can be told.
+-- `rows::registers` meets its contract: the row of registers can be told.
 use mathlib.Core.Path.{refl}
 use native.Mathlib.Omega.{arith}
 use lib.Dec.{lit≤}
@@ -27,16 +27,6 @@ said-requires-2 c κs = (record { seen = refl; short = lit≤ tt }, omega arith)
 returns-2 : tie.Need-returns-2
 returns-2 c = search needs
 
-slice-aggregate-said-3 : tie.Need-slice-aggregate-said-3
-slice-aggregate-said-3 c = search needs
-
-said-requires-3 : tie.Need-said-requires-3
-unfolding allFrom
-said-requires-3 c κs = (record { seen = refl; short = lit≤ tt }, omega arith)
-
-returns-3 : tie.Need-returns-3
-returns-3 c = search needs
-
 pub registers-spec : {M : Type 1} → statement M
 registers-spec =
     tie.close
@@ -46,7 +36,4 @@ registers-spec =
     returns
     slice-aggregate-said-2
     said-requires-2
-    returns-2
-    slice-aggregate-said-3
-    said-requires-3
-    returns-3)
+    returns-2)
