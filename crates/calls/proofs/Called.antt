@@ -11,7 +11,7 @@ use Rattle.model.specs.Table.{codeOf}
 use Rattle.model.specs.Machine.{ready, run, returned}
 use Rattle.model.specs.Check.{check}
 use Rattle.model.specs.MemoryCheck.{memoryCheck, entryCheck}
-use Rattle.calls.specs.Requests.{part, readyOf, registersOf, Ran, checkVerdict, memoryVerdict, entryVerdict}
+use Rattle.calls.specs.Requests.{part, registersOf, Ran, checkVerdict, memoryVerdict, entryVerdict}
 
 -- ---- verdicts
 

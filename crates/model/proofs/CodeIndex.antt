@@ -4,16 +4,17 @@ use mathlib.Core.Bool.{Bool, true, false, false≢true}
 use mathlib.Core.List.{List}
 use Prim.Native.Nat.{ℕ, zero, suc, _<_}
 use native.Mathlib.Omega.{arith}
-use borrow.Author.Tests.{ltb-true, lt-ltb}
+use borrow.Author.Tests.{lt-ltb}
 use Rattle.model.specs.Question.{Question, numberOf, questionOf, Outcome, ok, refused, provided}
-use Rattle.model.specs.Table.{Code, Routine, routineOf, startAsk}
+use Rattle.model.specs.Table.{Code, Routine, routineOf}
 use Rattle.model.specs.Machine.{State, Step, goes, halts, faults, need, indexOf, step, Ran, halted, paused, faulted, onward, finish, steps, runBlocks}
-use Rattle.model.specs.Machine.{answerOf, runAsk, opened, Ready, begin, run}
+use Rattle.model.specs.Machine.{Passes, answerOf, runAsk, opened, Ready, begin, run}
 use Rattle.model.specs.CodeIndex.{stepAsking, stepsAsking, blocksAsking, openedAsking, runAsking, IndexInside}
-use Rattle.model.proofs.Logic.{ask-ok, no-number}
+use Rattle.model.proofs.Logic.{no-number}
 use Rattle.model.proofs.TableLaws.{Sized, sized}
+use Rattle.model.proofs.TableRules.{start-exactly}
 use Rattle.model.proofs.MachineLaws.{Visited, visited-here, visited-step, steps-visited, index-below, Last, pausing, halting, faulting, halt-stays}
-use Rattle.model.proofs.RunCalls.{Opens, opens, run-is, run-last}
+use Rattle.model.proofs.RunCalls.{opens, run-is, run-last}
 
 -- ---- the run that asks is the run that does not
 
@@ -69,26 +70,26 @@ run-same q C memory g budget = go (runAsk C memory (g .block)) refl
 
 -- ---- where a run is
 
-started : (C : Code) (b : ℕ) → startAsk (C .blocks) b ≡ ok tt → b < routineOf C .count
-unfolding startAsk routineOf
-started C b e = ltb-true _ _ (ask-ok _ _ _ e .0)
-
 module _ (C : Code) (memory : List ℕ) (g : Ready) (budget : ℕ) where
   abbrev P : Routine
   P = routineOf C
 
-  last-inside : (x : Ran) → Opens C memory (g .block) → Last P budget (begin g memory) x → answerOf P x .index < P .total
+  -- a state passed through is inside the code
+  inside-at : Sized P → g .block < P .count → (s : State) → Passes P budget (begin g memory) s → indexOf P s < P .total
+  inside-at S h s p = index-below P S budget (begin g memory) s h refl p
+
+  last-inside : (x : Ran) → Sized P → g .block < P .count → Last P budget (begin g memory) x → answerOf P x .index < P .total
   unfolding answerOf
-  last-inside x O (pausing {s = s} p f z) = index-below P (sized C (O .lengths)) budget (begin g memory) s (O .exists) refl p
-  last-inside x O (halting {s = s} {s' = s'} p f e) =
+  last-inside x S h (pausing {s = s} p f z) = inside-at S h s p
+  last-inside x S h (halting {s = s} {s' = s'} p f e) =
       let i : indexOf P s' ≡ indexOf P s = ap (indexOf P) (halt-stays P s s' e) in
-      rw i (index-below P (sized C (O .lengths)) budget (begin g memory) s (O .exists) refl p)
-  last-inside x O (faulting {s = s} p f e) = index-below P (sized C (O .lengths)) budget (begin g memory) s (O .exists) refl p
+      rw i (inside-at S h s p)
+  last-inside x S h (faulting {s = s} p f e) = inside-at S h s p
 
   run-inside : runAsk C memory (g .block) ≡ ok tt → run C memory g budget .index < P .total
   run-inside e =
       let O = opens C memory (g .block) e in
-      rw (run-is C memory g budget O) (last-inside _ O (run-last C memory g budget O))
+      rw (run-is C memory g budget O) (last-inside _ (sized C (O .lengths)) (O .exists) (run-last C memory g budget O))
 
 -- ---- 22
 
@@ -115,7 +116,7 @@ pub index-inside : IndexInside
 unfolding routineOf
 index-inside =
     record {
-      below = λ C memory g budget l e s p. index-below (routineOf C) (sized C l) budget (begin g memory) s (started C (g .block) e) refl p;
+      below = λ C memory g budget l e. inside-at C memory g budget (sized C l) (start-exactly C (g .block) .0 e);
       answered = run-inside;
       same = run-same;
       unused = run-not-22;

@@ -5,13 +5,13 @@ use Prim.Native.Nat.{ℕ, suc, _+_, _<_}
 use native.Mathlib.Omega.{arith}
 use native.Mathlib.Nat.{zero-add, add-zero}
 use lib.ListN.{length}
-use borrow.Author.Tests.{ltb-true, lt-ltb}
 use Rattle.model.specs.Question.{Question, numberOf, questionOf, Outcome, ok, refused}
-use Rattle.model.specs.Table.{Routine, routineOf, codeLengthsAsk, lengthsAsk, startAsk, memoryLengthAsk, Code}
+use Rattle.model.specs.Table.{Routine, routineOf, codeLengthsAsk, lengthsAsk, memoryLengthAsk, Code}
 use Rattle.model.specs.Machine.{State, here, Ran, halted, paused, faulted, runBlocks, Run, answerAt, answerOf, runAsk, begin}
 use Rattle.model.specs.Machine.{opened, run, Ready, ready, runQuestions}
-use Rattle.model.proofs.Logic.{no-number, ask-ok, ok-ask, all-passed, passed-all}
+use Rattle.model.proofs.Logic.{no-number, all-passed, passed-all}
 use Rattle.model.proofs.TableLaws.{Sized, sized}
+use Rattle.model.proofs.TableRules.{start-exactly}
 use Rattle.model.proofs.MachineLaws.{visited, Last, pausing, halting}
 use Rattle.model.proofs.MachineLaws.{faulting, blocks-last, halt-stays, resume, blocks-plus, later, laterRan, blocks-later}
 
@@ -24,15 +24,15 @@ pub record Opens (C : Code) (memory : List ℕ) (b : ℕ) : Type 0 where
   pub bound : memoryLengthAsk (length memory) ≡ ok tt
 
 pub opens : (C : Code) (memory : List ℕ) (b : ℕ) → runAsk C memory b ≡ ok tt → Opens C memory b
-unfolding runAsk startAsk routineOf
+unfolding runAsk
 opens C memory b q =
     let (c, (l, (s, (m, u)))) = all-passed (runQuestions C memory b) q in
-    record { codeLengths = c; lengths = l; exists = ltb-true _ _ (ask-ok _ _ _ s .0); bound = m }
+    record { codeLengths = c; lengths = l; exists = start-exactly C b .0 s; bound = m }
 
 pub asked-ok : (C : Code) (memory : List ℕ) (b : ℕ) → Opens C memory b → runAsk C memory b ≡ ok tt
-unfolding runAsk startAsk routineOf
+unfolding runAsk
 asked-ok C memory b O =
-    passed-all (runQuestions C memory b) (O .codeLengths, (O .lengths, (ok-ask _ _ _ (lt-ltb _ _ (O .exists)), (O .bound, tt))))
+    passed-all (runQuestions C memory b) (O .codeLengths, (O .lengths, (start-exactly C b .1 (O .exists), (O .bound, tt))))
 
 -- past the opening questions a run is the machine's
 pub run-is : (C : Code) (memory : List ℕ) (g : Ready) (k : ℕ) → Opens C memory (g .block)

@@ -1,5 +1,5 @@
 -- `column` appends a column: after each turn the text so far, with what is still to be written, is the whole of it.
-use mathlib.Core.Path.{_≡_, refl, ap}
+use mathlib.Core.Path.{ap}
 use mathlib.Core.List.{[]}
 use Prim.Native.Nat.{_-_, _≤_}
 use native.Mathlib.Omega.{arith}
