@@ -1,6 +1,7 @@
 //! Document 01 in plain Rust, written from the document alone: the other side of the differential tests and of the benchmark.
 
 pub mod checks;
+pub mod forms;
 pub mod generate;
 pub mod hunt;
 pub mod machine;

@@ -1,8 +1,10 @@
 //! Asks the proved library and the plain one the same, on valid, nearly valid and random inputs, a run of the one written for speed as
 //! well, and lets accepted routines take turns with both checks asked again: `compare [SEED [CASES [SECONDS]]]`. Without a seed it takes
-//! one from the clock. The first difference is shown whole, as lines that the program `ramdulsi` and the plain `protocol` read.
+//! one from the clock. Before that it puts instruction words to them, and compares with Q7 as document 01 words it. The first difference is
+//! shown whole, as lines that the program `ramdulsi` and the plain `protocol` read.
 
 use ramdulsi_comparison::{fast, Proved};
+use ramdulsi_reference::forms;
 use ramdulsi_reference::generate::{change, random, Case};
 use ramdulsi_reference::hunt::{numbered, turns, Seen};
 use ramdulsi_reference::protocol::{answer, line, REQUESTS};
@@ -13,21 +15,45 @@ use std::time::{Duration, Instant, SystemTime, UNIX_EPOCH};
 /// Of each request the answer numbers that occurred.
 type Numbers = [BTreeSet<u32>; 4];
 
-/// Puts a case to all; an error shows the first request that they answer differently.
+/// The number that all give to a request; an error shows how they answer differently.
+fn number(request: &str, c: &Case) -> Result<u32, String> {
+    let (a, b) = (answer::<Proved>(request, c), answer::<Plain>(request, c));
+    if a != b {
+        return Err(format!("the answers differ\n{}\nproved: {a}\nplain:  {b}", line(request, c)));
+    }
+    if request == "run" {
+        if let Some(quick) = fast::answers(c).into_iter().find(|quick| *quick != b) {
+            return Err(format!("the answers differ\n{}\nfast:   {quick}\nplain:  {b}", line(request, c)));
+        }
+    }
+    Ok(a.number())
+}
+
+/// Puts a case to all.
 fn same(c: &Case, numbers: &mut Numbers) -> Result<(), String> {
     for (request, seen) in REQUESTS.into_iter().zip(numbers) {
-        let (a, b) = (answer::<Proved>(request, c), answer::<Plain>(request, c));
-        if a != b {
-            return Err(format!("the answers differ\n{}\nproved: {a}\nplain:  {b}", line(request, c)));
-        }
-        if request == "run" {
-            if let Some(quick) = fast::answers(c).into_iter().find(|quick| *quick != b) {
-                return Err(format!("the answers differ\n{}\nfast:   {quick}\nplain:  {b}", line(request, c)));
-            }
-        }
-        seen.insert(a.number());
+        seen.insert(number(request, c)?);
     }
     Ok(())
+}
+
+/// Puts words to all, each alone in a block and before a halt: 7 is the answer where document 01 has it so. Returns how many words.
+fn same_forms() -> Result<u64, String> {
+    let mut count = 0;
+    for w in forms::words() {
+        for code in [vec![w], vec![w, 0]] {
+            let blocks = vec![code.len() as u32, 0, 0, 0, 0, 0, 0, 0, 0];
+            let types = vec![1, 0, 0, 0, 0, 0, 0, 0, 0];
+            let c = Case { types, blocks, code, memory: vec![0], budget: 1, ..Case::default() };
+            for request in ["check", "run"] {
+                if (number(request, &c)? == 7) == forms::well_formed(w) {
+                    return Err(format!("document 01 says otherwise of Q7\n{}", line(request, &c)));
+                }
+            }
+        }
+        count += 1;
+    }
+    Ok(count)
 }
 
 /// One case of a seed: the case as it is, changed three times, and a random one.
@@ -47,6 +73,13 @@ fn main() {
     let seed = words.next().unwrap_or_else(clock);
     let cases = words.next().unwrap_or(100_000);
     let limit = Duration::from_secs(words.next().unwrap_or(u64::MAX));
+    match same_forms() {
+        Ok(count) => println!("compare: {count} instruction words, each refused by Q7 where document 01 has it so"),
+        Err(what) => {
+            println!("compare: {what}");
+            std::process::exit(1);
+        }
+    }
     println!("compare: seed {seed}");
     let began = Instant::now();
     let (mut seen, mut numbers) = (Seen::default(), Numbers::default());

@@ -23,7 +23,13 @@ use model::number::TAKEN_EDGE;
 use model::number::UNTAKEN_EDGE;
 
 // The first no of Q7 to Q9 and Q13 at the last instruction of block b; base is that of the open record.
-pub fn may_end(rows: &[u32; 13], word: u32, b: u32, count: u32, base: u32) -> u32
+pub fn may_end(
+    rows: &[[u32; 2]; instruction::OPCODES],
+    word: u32,
+    b: u32,
+    count: u32,
+    base: u32,
+) -> u32
     requires { ⌜ (now rows ≡ opcodeRows) × (b < 4294967295) ⌝ }
     ensures { λ r. ⌜ r ≡ endNo (decode word) b count base ⌝ }
 {

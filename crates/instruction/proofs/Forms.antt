@@ -1,20 +1,14 @@
--- The row of each opcode, and what a well-formed word's instruction is.
-use mathlib.Core.Path.{_≡_, refl, sym, ap, _∙_}
-use mathlib.Core.Bool.{Bool, true, false, false≢true}
-use mathlib.Core.List.{List, [], _∷_}
-use Prim.Native.Nat.{ℕ, zero, suc, _/_, _%_, _<_, _≤_}
-use native.Mathlib.Omega.{arith}
-use lib.Dec.{ltb}
-use lib.ListN.{getD}
-use borrow.Author.Tests.{ltb-true, ltb-false, eqb-true}
+-- What document 01 has for each opcode, and what a well-formed word's instruction is.
+use mathlib.Core.Path.{_≡_, sym, ap, _∙_}
+use mathlib.Core.Bool.{Bool, true}
+use Prim.Native.Nat.{ℕ, _/_, _%_}
 use Rattle.model.specs.Question.{_and_}
 use Rattle.model.specs.Word.{opcodeOf, aOf, bOf, cOf}
 use Rattle.model.specs.Machine.{constant, copy, add, subtract, multiply, divide, move, load, store, halt, jump, ifEqual, ifLess, Instruction, plain}
-use Rattle.model.specs.Machine.{end, malformed, register, unused, nonzero, formed, byOpcode, decode, hasForm, wellFormed}
-use Rattle.model.proofs.Logic.{byTest, and-true}
-use Rattle.model.proofs.Lists.{getD-past, Each, none, more, each-at}
+use Rattle.model.specs.Machine.{end, register, unused, nonzero, formed, byOpcode, decode, hasForm, wellFormed}
+use Rattle.model.proofs.Uses.{has-form}
 
--- ---- the row of an opcode
+-- ---- what document 01 has for an opcode
 
 module _ (w : ℕ) where
   abbrev a : ℕ
@@ -78,71 +72,14 @@ module _ (w : ℕ) where
   unfolding decode byOpcode
   row-12 e = rw e
 
-  pub row-past : 12 < opcodeOf w → decode w ≡ malformed
-  unfolding decode byOpcode
-  row-past h = getD-past (byOpcode a b c) (opcodeOf w) malformed (omega arith)
+-- ---- an opcode and its test
 
--- ---- a row and its test
-
-pub has-form : (t : Bool) (x : Instruction) → hasForm x ≡ true → hasForm (formed t x) ≡ t
-unfolding formed
-has-form true x e = e
-has-form false x e = refl
-
--- a word whose row has the test t is well formed exactly where t holds
-pub well : (w : ℕ) (t : Bool) (x : Instruction) → hasForm x ≡ true → decode w ≡ formed t x → wellFormed w ≡ t
+-- a word whose opcode has the test t is well formed exactly where t holds
+well : (w : ℕ) (t : Bool) (x : Instruction) → hasForm x ≡ true → decode w ≡ formed t x → wellFormed w ≡ t
 unfolding wellFormed
 well w t x h e = ap hasForm e ∙ has-form t x h
 
--- and then its instruction is the row's
+-- and then its instruction is the opcode's
 pub decoded : (w : ℕ) (t : Bool) (x : Instruction) → hasForm x ≡ true → decode w ≡ formed t x → wellFormed w ≡ true → decode w ≡ x
 unfolding formed
 decoded w t x h e q = let s : t ≡ true = sym (well w t x h e) ∙ q in e ∙ rw s
-
--- ---- registers of a well-formed word
-
--- a row with a form names registers by its parts a and b
-abbrev Numbers : ℕ → ℕ → Instruction → Type 0
-Numbers a b x = hasForm x ≡ true → (a < 8) × (b < 8)
-
-by-test : (a b : ℕ) (t : Bool) (x : Instruction) → hasForm x ≡ true → (t ≡ true → (a < 8) × (b < 8)) → Numbers a b (formed t x)
-by-test a b t x h f q = f (sym (has-form t x h) ∙ q)
-
-zero-register : (x : ℕ) → unused x ≡ true → x < 8
-zero-register x q = let z : x ≡ 0 = eqb-true x 0 q in omega arith
-
-rows-hold : (a b c : ℕ) → Each (Numbers a b) (byOpcode a b c)
-unfolding byOpcode
-rows-hold a b c =
-    more (by-test a b _ (end halt) refl (λ q. let (x, y) = and-true _ _ q in (zero-register a x, zero-register b (and-true _ _ y .0))))
-    (more (by-test a b _ (plain (constant a c)) refl (λ q. let (x, y) = and-true _ _ q in (ltb-true a 8 x, zero-register b y)))
-    (more (by-test a b _ (plain (copy a b)) refl (λ q. three _ q))
-    (more (by-test a b _ (plain (add a b c)) refl (λ q. three _ q))
-    (more (by-test a b _ (plain (subtract a b c)) refl (λ q. three _ q))
-    (more (by-test a b _ (plain (multiply a b c)) refl (λ q. three _ q))
-    (more (by-test a b _ (plain (divide a b c)) refl (λ q. three _ q))
-    (more (by-test a b _ (plain (move a b c)) refl two)
-    (more (by-test a b _ (plain (load a b c)) refl two)
-    (more (by-test a b _ (plain (store a b c)) refl two)
-    (more (by-test a b _ (end (jump c)) refl (λ q. let (x, y) = and-true _ _ q in (zero-register a x, zero-register b y)))
-    (more (by-test a b _ (end (ifEqual a (c / 256) (c % 256))) refl (λ q. let (x, y) = and-true _ _ q in (ltb-true a 8 x, zero-register b y)))
-    (more (by-test a b _ (end (ifLess a b c)) refl two) none))))))))))))
-  where
-    two : register a and register b ≡ true → (a < 8) × (b < 8)
-    two q = let (x, y) = and-true _ _ q in (ltb-true a 8 x, ltb-true b 8 y)
-
-    three : (t : Bool) → register a and register b and t ≡ true → (a < 8) × (b < 8)
-    three t q = let (x, y) = and-true _ _ q in (ltb-true a 8 x, ltb-true b 8 (and-true _ _ y .0))
-
--- the parts a and b of a well-formed word number registers
-pub registers : (w : ℕ) → wellFormed w ≡ true → (aOf w < 8) × (bOf w < 8)
-unfolding wellFormed decode
-registers w q =
-    each-at malformed (λ z. absurd (false≢true z)) (byOpcode (aOf w) (bOf w) (cOf w)) (opcodeOf w) (rows-hold (aOf w) (bOf w) (cOf w)) q
-
--- a well-formed word has one of the thirteen opcodes
-pub known : (w : ℕ) → wellFormed w ≡ true → opcodeOf w ≤ 12
-unfolding wellFormed
-known w q =
-    byTest (ltb 12 (opcodeOf w)) (λ h. absurd (false≢true (sym (ap hasForm (row-past w (ltb-true 12 (opcodeOf w) h))) ∙ q)))
-    (λ h. ltb-false 12 (opcodeOf w) h)

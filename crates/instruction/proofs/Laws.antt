@@ -1,99 +1,19 @@
--- The answers of `well_formed`, `targets_exist` and `form` at each of their returns.
+-- The answers of `targets_exist`, `target` and `form` at each of their returns.
 use mathlib.Core.Path.{_≡_, refl, sym, ap, _∙_}
 use mathlib.Core.Bool.{Bool, true, false, false≢true}
 use Prim.Native.Nat.{ℕ, suc, _+_, _/_, _%_, _<_, _≤_}
 use native.Mathlib.Omega.{arith}
-use lib.Dec.{ltb, eqb}
-use borrow.Author.Tests.{lt-ltb, le-ltb, eq-eqb, ne-eqb, ltb-true, eqb-true}
+use lib.Dec.{ltb}
+use borrow.Author.Tests.{lt-ltb, le-ltb, ltb-true}
 use Rattle.model.specs.Question.{_and_, provided, Question, isAnswer, q7, questionOf, q8, q9}
 use Rattle.model.specs.Word.{opcodeOf, aOf, bOf, cOf}
 use Rattle.model.specs.Machine.{Plain, constant, copy, add, subtract, multiply, divide, move, load, store, End, halt, jump, ifEqual, ifLess}
 use Rattle.model.specs.Machine.{Instruction, plain, end, malformed, decode, hasForm, wellFormed, targetsExist, formAsk}
 use Rattle.model.proofs.Logic.{byTest, byEqual, byLess, and-true, answer-of, answer-none}
-use Rattle.instruction.proofs.Forms.{row-0, row-1, row-2, row-3, row-4, row-5, row-6, row-7, row-8, row-9, row-10, row-11, row-12, row-past}
-use Rattle.instruction.proofs.Forms.{well, decoded, known, registers}
+use Rattle.instruction.proofs.Forms.{row-0, row-1, row-2, row-3, row-4, row-5, row-6, row-7, row-8, row-9, row-10, row-11, row-12}
+use Rattle.instruction.proofs.Forms.{decoded}
+use Rattle.instruction.proofs.Parts.{known, registers, halt-c}
 use Rattle.instruction.specs.Form.{formNo, plainOf, endOf, targetOf, forks, Inside, Ending}
-
--- a test after one that holds
-and-on : (s t : Bool) → s ≡ true → s and t ≡ t
-unfolding _and_
-and-on s t e = rw e
-
-module _ (w : ℕ) where
-  pub opcode-past : 12 < opcodeOf w → false ≡ wellFormed w
-  unfolding wellFormed
-  opcode-past h = sym (ap hasForm (row-past w h))
-
-  pub all-zero : opcodeOf w ≡ 0 → aOf w ≡ 0 → bOf w ≡ 0 → cOf w ≡ 0 → w ≡ 0
-  all-zero e x y z =
-      let h₁ : w < 16777216 = omega arith in
-      let h₂ : w / 1048576 ≡ 0 = small (w / 1048576) (omega arith) x in
-      let h₃ : w < 1048576 = omega arith in
-      let h₄ : w / 65536 ≡ 0 = small (w / 65536) (omega arith) y in
-      let h₅ : w < 65536 = omega arith in
-      omega arith
-    where
-      small : (n : ℕ) → n < 16 → n % 16 ≡ 0 → n ≡ 0
-      small n h e = omega arith
-
-  zero-parts : opcodeOf w ≡ 0 → eqb (aOf w) 0 and eqb (bOf w) 0 and eqb (cOf w) 0 ≡ eqb w 0
-  unfolding _and_
-  zero-parts e =
-      byEqual w 0
-      (λ z. rw (eq-eqb w 0 z, eq-eqb (aOf w) 0 (omega arith), eq-eqb (bOf w) 0 (omega arith), eq-eqb (cOf w) 0 (omega arith)))
-      (λ n. byEqual (aOf w) 0
-      (λ x. byEqual (bOf w) 0
-      (λ y. rw (eq-eqb (aOf w) 0 x, eq-eqb (bOf w) 0 y, ne-eqb (cOf w) 0 (λ z. n (all-zero e x y z)), ne-eqb w 0 n))
-      (λ y. rw (eq-eqb (aOf w) 0 x, ne-eqb (bOf w) 0 y, ne-eqb w 0 n)))
-      (λ x. rw (ne-eqb (aOf w) 0 x, ne-eqb w 0 n)))
-
-  pub at-0 : opcodeOf w ≡ 0 → eqb w 0 ≡ wellFormed w
-  at-0 e = sym (well w _ (end halt) refl (row-0 w e) ∙ zero-parts e)
-
-  pub at-1 : opcodeOf w ≡ 1 → aOf w < 8 → eqb (bOf w) 0 ≡ wellFormed w
-  at-1 e ha = sym (well w _ (plain (constant (aOf w) (cOf w))) refl (row-1 w e) ∙ and-on _ _ (lt-ltb _ _ ha))
-
-  both-on : (t : Bool) → aOf w < 8 → bOf w < 8 → ltb (aOf w) 8 and ltb (bOf w) 8 and t ≡ t
-  both-on t ha hb = and-on _ _ (lt-ltb _ _ ha) ∙ and-on _ _ (lt-ltb _ _ hb)
-
-  both-true : aOf w < 8 → bOf w < 8 → ltb (aOf w) 8 and ltb (bOf w) 8 ≡ true
-  both-true ha hb = and-on _ _ (lt-ltb _ _ ha) ∙ lt-ltb _ _ hb
-
-  pub at-2 : opcodeOf w ≡ 2 → aOf w < 8 → bOf w < 8 → eqb (cOf w) 0 ≡ wellFormed w
-  at-2 e ha hb = sym (well w _ (plain (copy (aOf w) (bOf w))) refl (row-2 w e) ∙ both-on _ ha hb)
-
-  pub at-arithmetic : 2 < opcodeOf w → opcodeOf w < 6 → aOf w < 8 → bOf w < 8 → ltb (cOf w) 8 ≡ wellFormed w
-  at-arithmetic l h ha hb =
-      byEqual (opcodeOf w) 3 (λ e. sym (well w _ (plain (add (aOf w) (bOf w) (cOf w))) refl (row-3 w e) ∙ both-on _ ha hb))
-      (λ n. byEqual (opcodeOf w) 4 (λ e. sym (well w _ (plain (subtract (aOf w) (bOf w) (cOf w))) refl (row-4 w e) ∙ both-on _ ha hb))
-      (λ m. sym (well w _ (plain (multiply (aOf w) (bOf w) (cOf w))) refl (row-5 w (omega arith)) ∙ both-on _ ha hb)))
-
-  pub at-6 : opcodeOf w ≡ 6 → aOf w < 8 → bOf w < 8 → ltb 0 (cOf w) ≡ wellFormed w
-  at-6 e ha hb = sym (well w _ (plain (divide (aOf w) (bOf w) (cOf w))) refl (row-6 w e) ∙ both-on _ ha hb)
-
-  pub at-pointer : 6 < opcodeOf w → opcodeOf w < 10 → aOf w < 8 → bOf w < 8 → true ≡ wellFormed w
-  at-pointer l h ha hb =
-      byEqual (opcodeOf w) 7 (λ e. sym (well w _ (plain (move (aOf w) (bOf w) (cOf w))) refl (row-7 w e) ∙ both-true ha hb))
-      (λ n. byEqual (opcodeOf w) 8 (λ e. sym (well w _ (plain (load (aOf w) (bOf w) (cOf w))) refl (row-8 w e) ∙ both-true ha hb))
-      (λ m. sym (well w _ (plain (store (aOf w) (bOf w) (cOf w))) refl (row-9 w (omega arith)) ∙ both-true ha hb)))
-
-  pub at-12 : opcodeOf w ≡ 12 → aOf w < 8 → bOf w < 8 → true ≡ wellFormed w
-  at-12 e ha hb = sym (well w _ (end (ifLess (aOf w) (bOf w) (cOf w))) refl (row-12 w e) ∙ both-true ha hb)
-
-  pub b-used : 9 < opcodeOf w → opcodeOf w < 12 → (bOf w ≡ 0 → ⊥) → false ≡ wellFormed w
-  unfolding _and_
-  b-used l h n =
-      byEqual (opcodeOf w) 10
-      (λ e. sym (well w _ (end (jump (cOf w))) refl (row-10 w e) ∙ byTest (eqb (aOf w) 0) (λ q. rw (q, ne-eqb (bOf w) 0 n)) (λ q. rw q)))
-      (λ m. sym (well w _ (end (ifEqual (aOf w) (cOf w / 256) (cOf w % 256))) refl (row-11 w (omega arith))
-      ∙ byTest (ltb (aOf w) 8) (λ q. rw (q, ne-eqb (bOf w) 0 n)) (λ q. rw q)))
-
-  pub at-11 : opcodeOf w ≡ 11 → aOf w < 8 → bOf w ≡ 0 → true ≡ wellFormed w
-  at-11 e ha hb = sym (well w _ (end (ifEqual (aOf w) (cOf w / 256) (cOf w % 256))) refl (row-11 w e) ∙ and-on _ _ (lt-ltb _ _ ha) ∙ eq-eqb _ _ hb)
-
-  pub at-10 : opcodeOf w ≡ 10 → bOf w ≡ 0 → eqb (aOf w) 0 ≡ wellFormed w
-  unfolding _and_
-  at-10 e hb = sym (well w _ (end (jump (cOf w))) refl (row-10 w e) ∙ byTest (eqb (aOf w) 0) (λ q. rw (q, eq-eqb (bOf w) 0 hb)) (λ q. rw q))
 
 -- ---- the instruction of a well-formed word
 
@@ -197,7 +117,7 @@ module _ (w : ℕ) where
 
   pub target-other : wellFormed w ≡ true → (0 < opcodeOf w → 9 < opcodeOf w) → (opcodeOf w ≡ 11 → ⊥) → cOf w ≡ targetOf (endOf w)
   target-other q h n =
-      byEqual (opcodeOf w) 0 (λ o. let z : w ≡ 0 = eqb-true w 0 (at-0 w o ∙ q) in let c : cOf w ≡ 0 = omega arith in c ∙ rw (end-halt w o))
+      byEqual (opcodeOf w) 0 (λ o. halt-c w q o ∙ rw (end-halt w o))
       (λ p. byEqual (opcodeOf w) 10 (λ o. rw (end-jump w o))
       (λ m. let l = h (omega arith) in
       let k = known w q in

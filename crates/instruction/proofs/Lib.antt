@@ -1,3 +1,4 @@
 pub mod Forms
+pub mod Parts
+pub mod Rows
 pub mod Laws
-pub mod Barred

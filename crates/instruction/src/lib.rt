@@ -4,7 +4,7 @@ ghost use mathlib.Core.Bool.{true};
 ghost use Prim.Native.Nat.{_<_};
 ghost use Rattle.model.specs.Word.{opcodeOf};
 ghost use Rattle.model.specs.Machine.{decode, wellFormed, targetsExist};
-ghost use Rattle.instruction.specs.Rows.{opcodeRows};
+ghost use Rattle.instruction.specs.Rows.{opcodeRows, formedByWords};
 ghost use Rattle.instruction.specs.Form.{formNo, endOf, targetOf};
 use model::number;
 
@@ -35,47 +35,68 @@ pub const IF_EQUAL: u32 = 11;
 
 pub const IF_LESS: u32 = 12;
 
-// A row for each opcode, with the bits of a word that must not be set: all of an unused part, all but the low three of a register's.
-const ROWS: [u32; 13] = [
-    0xffffff, // halt
-    0x8f0000, // constant
-    0x88ffff, // copy
-    0x88fff8, // add
-    0x88fff8, // subtract
-    0x88fff8, // multiply
-    0x880000, // divide
-    0x880000, // move
-    0x880000, // load
-    0x880000, // store
-    0xff0000, // jump
-    0x8f0000, // if equal
-    0x880000, // if less
+// How many there are.
+pub const OPCODES: usize = 13;
+
+// How an opcode uses a part of its word, as the bits of the word that must not be set: all of an unused part, all but the low three of
+// a register's number, none of a number.
+const A_UNUSED: u32 = 0xf00000;
+
+const A_REGISTER: u32 = 0x800000;
+
+const B_UNUSED: u32 = 0xf0000;
+
+const B_REGISTER: u32 = 0x80000;
+
+const C_UNUSED: u32 = 0xffff;
+
+const C_REGISTER: u32 = 0xfff8;
+
+const C_NUMBER: u32 = 0;
+
+// The least c: 0, or 1 for a divisor.
+const FROM_0: u32 = 0;
+
+const DIVISOR: u32 = 1;
+
+// A row for each opcode: the bits that must not be set, and the least c.
+const USES: [[u32; 2]; OPCODES] = [
+    [A_UNUSED + B_UNUSED + C_UNUSED, FROM_0], // halt
+    [A_REGISTER + B_UNUSED + C_NUMBER, FROM_0], // constant
+    [A_REGISTER + B_REGISTER + C_UNUSED, FROM_0], // copy
+    [A_REGISTER + B_REGISTER + C_REGISTER, FROM_0], // add
+    [A_REGISTER + B_REGISTER + C_REGISTER, FROM_0], // subtract
+    [A_REGISTER + B_REGISTER + C_REGISTER, FROM_0], // multiply
+    [A_REGISTER + B_REGISTER + C_NUMBER, DIVISOR], // divide
+    [A_REGISTER + B_REGISTER + C_NUMBER, FROM_0], // move
+    [A_REGISTER + B_REGISTER + C_NUMBER, FROM_0], // load
+    [A_REGISTER + B_REGISTER + C_NUMBER, FROM_0], // store
+    [A_UNUSED + B_UNUSED + C_NUMBER, FROM_0], // jump
+    [A_REGISTER + B_UNUSED + C_NUMBER, FROM_0], // if equal
+    [A_REGISTER + B_REGISTER + C_NUMBER, FROM_0], // if less
 ];
 
 // The rows, made once by a check or a run and lent down: a constant array is laid out anew wherever it is named.
-pub fn opcode_rows() -> [u32; 13]
+pub fn opcode_rows() -> [[u32; 2]; OPCODES]
     ensures { λ r. ⌜ r ≡ opcodeRows ⌝ }
 {
-    ROWS
+    USES
 }
 
-// Q7: a known opcode with its parts in range, unused parts zero and no divisor 0.
-pub fn well_formed(rows: &[u32; 13], w: u32) -> bool
-    requires { ⌜ now rows ≡ opcodeRows ⌝ }
-    ensures { λ r. ⌜ r ≡ wellFormed w ⌝ }
+// Q7 by the word and the row of its opcode alone, whatever the rows are; an opcode that has no row is refused.
+fn well_formed(rows: &[[u32; 2]; OPCODES], w: u32) -> bool
+    ensures { λ r. ⌜ r ≡ formedByWords (now (rows .entry)) w ⌝ }
 {
-    let op = w / 16777216;
-    if IF_LESS < op {
+    let op = (w / 16777216) as usize;
+    if OPCODES <= op {
         return false;
     }
-    let set = w & rows[op as usize];
+    let set = w & rows[op][0];
     if set != 0 {
         return false;
     }
-    if op == DIVIDE {
-        return 0 < w % 65536;
-    }
-    true
+    let least = rows[op][1];
+    least <= w % 65536
 }
 
 // Q9 of a word whose opcode is 10, 11 or 12.
@@ -110,7 +131,7 @@ pub fn target(w: u32) -> u32
 }
 
 // The first no of Q7, Q8 and Q9 at an instruction of block b, as a number; last: it is the block's last.
-pub fn form(rows: &[u32; 13], w: u32, last: bool, b: u32, count: u32) -> u32
+pub fn form(rows: &[[u32; 2]; OPCODES], w: u32, last: bool, b: u32, count: u32) -> u32
     requires { ⌜ (now rows ≡ opcodeRows) × (b < 4294967295) ⌝ }
     ensures { λ r. ⌜ r ≡ formNo (decode w) last b count ⌝ }
 {

@@ -27,7 +27,7 @@ struct Ended {
 // A block, whose code is one part of the code table. The word is read before the last is told from the others, so that reading it does
 // not wait for that.
 fn run_block(
-    rows: &[u32; 13],
+    rows: &[[u32; 2]; instruction::OPCODES],
     part: &[u32],
     registers: &mut [u32; 8],
     memory: &mut [u32],

@@ -12,11 +12,10 @@ use Rattle.model.specs.Word.{kindOf, recordOf, firstOf, secondOf}
 use Rattle.model.specs.Types.{typeOf, depOf, wordOf}
 use Rattle.model.specs.Table.{Tables, tablesOf, wellMade}
 use Rattle.model.specs.MemoryCheck.{runTest, rankTest, tagTest, meets}
-use Rattle.model.proofs.Logic.{byEqual}
+use Rattle.model.proofs.Logic.{byEqual, and-no, and-yes, yes-and}
 use Rattle.table.proofs.Laws.{kind-bound, record-of-span, first-name, second-name}
 use Rattle.meaning.specs.Owners.{startsAt, Owned}
 use Rattle.meaning.specs.Search.{Legible}
-use Rattle.meaning.proofs.Runs.{and-yes, and-no, yes-and}
 
 -- a well-made word over n names can be read where there are as many words or more
 pub legible : (count n m w v : ℕ) → w ≡ v → wellMade count n v ≡ true → n ≤ m → Legible count m w

@@ -1,6 +1,6 @@
 -- A run is tested by one entry of the table of owners: its elements start one after the other up to the end that the entry holds.
-use mathlib.Core.Path.{_≡_, refl, sym, ap, _∙_}
-use mathlib.Core.Bool.{Bool, true, false}
+use mathlib.Core.Path.{_≡_, sym, ap, _∙_}
+use mathlib.Core.Bool.{true, false}
 use mathlib.Core.List.{List}
 use Prim.Native.Nat.{ℕ, zero, suc, _+_, _-_, _*_, _/_, _%_, _≤_, _<_}
 use native.Mathlib.Nat.{div-add-mod', div-le-self, zero-mul}
@@ -12,24 +12,8 @@ use Rattle.model.specs.Word.{difference}
 use Rattle.model.specs.Table.{Tables, headOf, tablesOf}
 use Rattle.model.specs.Allocation.{isAllocated}
 use Rattle.model.specs.MemoryCheck.{whenTrue, unlessTrue, startsTest, runTest}
-use Rattle.model.proofs.Logic.{byTest}
+use Rattle.model.proofs.Logic.{byTest, and-no, and-yes, yes-and}
 use Rattle.meaning.specs.Owners.{ownerAt, startsAt, Owned}
-
--- ---- tests in a row
-
-pub and-no : (a b : Bool) → (a ≡ true → b ≡ false) → a and b ≡ false
-unfolding _and_
-and-no true b h = h refl
-and-no false b h = refl
-
-pub and-yes : (a b : Bool) → a ≡ true → a and b ≡ b
-unfolding _and_
-and-yes a b h = rw h
-
-pub yes-and : (a b : Bool) → b ≡ true → a and b ≡ a
-unfolding _and_
-yes-and true b h = h
-yes-and false b h = refl
 
 -- ---- the starts of a run
 

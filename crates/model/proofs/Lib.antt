@@ -24,6 +24,7 @@ pub mod MeetsDecide
 pub mod RunSound
 pub mod RunCalls
 pub mod CodeIndex
+pub mod Uses
 pub mod RunEnds
 pub mod Exactly
 pub mod ReadingStates

@@ -39,6 +39,20 @@ pub true-and : (a b : Bool) → a ≡ true → b ≡ true → a and b ≡ true
 unfolding _and_
 true-and a b p q = rw (p, q)
 
+pub and-no : (a b : Bool) → (a ≡ true → b ≡ false) → a and b ≡ false
+unfolding _and_
+and-no true b h = h refl
+and-no false b h = refl
+
+pub and-yes : (a b : Bool) → a ≡ true → a and b ≡ b
+unfolding _and_
+and-yes a b h = rw h
+
+pub yes-and : (a b : Bool) → b ≡ true → a and b ≡ a
+unfolding _and_
+yes-and true b h = h
+yes-and false b h = refl
+
 pub or-true : (a b : Bool) → a or b ≡ true → (a ≡ true) ⊎ (b ≡ true)
 unfolding _or_
 or-true true b e = inl refl

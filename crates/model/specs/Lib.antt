@@ -6,6 +6,7 @@ pub mod Meaning
 pub mod Allocation
 pub mod Machine
 pub mod CodeIndex
+pub mod Uses
 pub mod Rules
 pub mod ReadingRules
 pub mod Reading

@@ -1,22 +1,22 @@
 -- One instruction: a law for each way out of `effect_of`, `reached` and `leave`.
-use mathlib.Core.Path.{_≡_, refl, sym, _∙_}
-use mathlib.Core.Logic.{_⊎_, inl, inr}
-use mathlib.Core.Bool.{Bool, true, false}
+use mathlib.Core.Path.{_≡_, refl, _∙_}
+use mathlib.Core.Bool.{true, false}
 use mathlib.Core.List.{List}
 use Prim.Native.Nat.{ℕ, suc, _/_, _%_, _<_, _≤_}
 use native.Mathlib.Omega.{arith}
 use lib.Dec.{ltb, eqb}
 use lib.ListN.{length, getD, set}
-use borrow.Author.Tests.{lt-ltb, le-ltb, ltb-true, eq-eqb, ne-eqb}
+use borrow.Author.Tests.{lt-ltb, le-ltb, eq-eqb, ne-eqb}
 use Rattle.model.specs.Question.{pick, questionOf, provided}
 use Rattle.model.specs.Word.{opcodeOf, aOf, bOf, cOf, sum, difference, product, signed, moved}
 use Rattle.model.specs.Table.{Routine}
 use Rattle.model.specs.Machine.{Plain, constant, copy, add, subtract, multiply, divide, move, decode, put, reg, effect, addressed, registersAfter}
 use Rattle.model.specs.Machine.{memoryAfter, next, State, Step, leave, perform, carryOut, faults}
-use Rattle.model.proofs.Logic.{byTest, byEqual, byLess}
+use Rattle.model.proofs.Logic.{byEqual, byLess}
 use Rattle.model.proofs.Lists.{set-same}
 use Rattle.instruction.specs.Form.{formNo, plainOf, endOf, Inside, Ending}
-use Rattle.instruction.proofs.Laws.{at-arithmetic, at-6, end-halt, end-jump, end-equal, end-less, form-refuses, form-anywhere, form-inside, form-ending}
+use Rattle.instruction.proofs.Parts.{arithmetic-c, divide-c}
+use Rattle.instruction.proofs.Laws.{end-halt, end-jump, end-equal, end-less, form-refuses, form-anywhere, form-inside, form-ending}
 use Rattle.step.specs.declared.Effect.{Effect}
 use Rattle.step.specs.declared.Exit.the-variants.{To, Following, Halted, No}
 use Rattle.step.specs.Answer.{at, stepOf, past, valueOf, onRegister, onMemory, putting, does, exitOf}
@@ -29,10 +29,10 @@ fewer w f n8 n9 = byLess (opcodeOf w) 8 (λ k. k) (λ k. absurd (byEqual (opcode
 
 -- the third part of a sum, difference or product numbers a register
 third-register : (w : ℕ) → Inside 1 w → 2 < opcodeOf w → opcodeOf w < 6 → cOf w % 8 ≡ cOf w
-third-register w f l h = let k = ltb-true (cOf w) 8 (at-arithmetic w l h (f .a-exists) (f .b-exists) ∙ f .well) in omega arith
+third-register w f l h = omega (arith, arithmetic-c w (f .well) l h)
 
 pub divisor : (w : ℕ) → Inside 1 w → opcodeOf w ≡ 6 → 0 < cOf w
-divisor w f e = ltb-true 0 (cOf w) (at-6 w e (f .a-exists) (f .b-exists) ∙ f .well)
+divisor w f e = divide-c w (f .well) e
 
 -- one of five words, chosen in five steps
 pub chosen : (o x y c s d sums p pairs t more low v : ℕ) → s ≡ sum x y → d ≡ difference x y → sums ≡ pick (eqb o 3) s d

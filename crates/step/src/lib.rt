@@ -117,7 +117,7 @@ fn value(op: u32, x: u32, y: u32, c: u32) -> u32
 }
 
 // The effect of an instruction that is not its block's last. It is not asked Q9, so it is of no account which block it is in.
-pub fn effect_of(rows: &[u32; 13], registers: &[u32; 8], w: u32) -> Effect
+pub fn effect_of(rows: &[[u32; 2]; instruction::OPCODES], registers: &[u32; 8], w: u32) -> Effect
     requires { ⌜ now rows ≡ opcodeRows ⌝ }
     ensures does { λ r. ⌜ ((P : Routine) (b j f n : ℕ) (m : List ℕ) → (suc j ≡ P .long b → ⊥)
         → does r (at b j (now (registers .entry)) m f n) ≡ perform P (decode w) (at b j (now (registers .entry)) m f n)) ⌝ }
@@ -218,7 +218,12 @@ pub fn carry_out(registers: [u32; 8], memory: &mut [u32], e: Effect) -> Stepped
 
 // One instruction, over lent registers: of the array that it hands back, the register that can differ is taken over. A loop around
 // these lines would copy all eight for each instruction, so they are a function of their own.
-pub fn advance(rows: &[u32; 13], registers: &mut [u32; 8], memory: &mut [u32], w: u32) -> u32
+pub fn advance(
+    rows: &[[u32; 2]; instruction::OPCODES],
+    registers: &mut [u32; 8],
+    memory: &mut [u32],
+    w: u32,
+) -> u32
     requires { ⌜ now rows ≡ opcodeRows ⌝ }
     ensures { λ r. ⌜ ((P : Routine) (b j f n : ℕ) → (suc j ≡ P .long b → ⊥)
         → stepOf r (at b j (now (registers .exit)) (now (memory .exit)) f n) (past (at b j (now (registers .exit)) (now (memory .exit)) f n))
@@ -240,7 +245,13 @@ fn less(x: u32, y: u32) -> bool
 }
 
 // Which exit the block's last instruction takes. It leaves registers and memory as they are.
-pub fn leave(rows: &[u32; 13], registers: &[u32; 8], w: u32, b: u32, count: u32) -> Exit
+pub fn leave(
+    rows: &[[u32; 2]; instruction::OPCODES],
+    registers: &[u32; 8],
+    w: u32,
+    b: u32,
+    count: u32,
+) -> Exit
     requires { ⌜ (now rows ≡ opcodeRows) × (b < 4294967295) ⌝ }
     ensures { λ r. ⌜ ((P : Routine) (j f n : ℕ) (m : List ℕ) → P .count ≡ count → suc j ≡ P .long b
         → exitOf r (at b j (now (registers .entry)) m f n) ≡ perform P (decode w) (at b j (now (registers .entry)) m f n)) ⌝ }

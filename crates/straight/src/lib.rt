@@ -138,7 +138,7 @@ fn step(
 
 // Q7 to Q12 of an instruction inside a block. It is not asked Q9, so it is of no account which block it is in.
 pub fn read_inside(
-    rows: &[u32; 13],
+    rows: &[[u32; 2]; instruction::OPCODES],
     types: &[u32],
     tags: &[u32],
     registers: &mut [u8; 8],

@@ -35,7 +35,7 @@ struct Stopped {
 
 // Q7, Q8 and Q10 to Q12 of the instructions before the last of a block, whose code is part.
 fn inside(
-    rows: &[u32; 13],
+    rows: &[[u32; 2]; instruction::OPCODES],
     types: &[u32],
     tags: &[u32],
     registers: &mut [u8; 8],
@@ -105,7 +105,7 @@ fn next_block(b: usize, count: usize) -> usize
 
 // Q7 to Q9 and Q13 to Q15 of the last instruction of block b, which leads to the rows of its target and of the next block.
 fn block_end(
-    rows: &[u32; 13],
+    rows: &[[u32; 2]; instruction::OPCODES],
     tags: &[u32],
     blocks: &[u32],
     registers: &[u8; 8],
@@ -144,7 +144,7 @@ fn block_end(
 
 // Q7 to Q15 of block b, whose code is part and starts at first.
 fn block(
-    rows: &[u32; 13],
+    rows: &[[u32; 2]; instruction::OPCODES],
     types: &[u32],
     tags: &[u32],
     blocks: &[u32],

@@ -5,7 +5,7 @@ use native.Mathlib.Omega.{arith}
 use Rattle.model.specs.Question.{q14}
 use Rattle.model.specs.Word.{opcodeOf}
 use Rattle.model.proofs.Logic.{answer-of}
-use Rattle.instruction.proofs.Forms.{registers, known}
+use Rattle.instruction.proofs.Parts.{known, registers}
 use borrow.Author.Needs.{needs}
 use Rattle.branch.proofs.Ends.{edges-halt, jump-no, jump-yes, fork-edges}
 use Rattle.branch.proofs.edges.Statement.{statement}

@@ -1,24 +1,30 @@
 -- `instruction::form` meets its contract: the first of Q7, Q8 and Q9 that has a no.
-use mathlib.Core.Path.{_≡_}
+use mathlib.Core.Path.{_≡_, _∙_}
 use mathlib.Core.Bool.{true}
+use denote.Ref.{now}
 use native.Mathlib.Omega.{arith}
 use borrow.Author.Needs.{needs}
 use borrow.Author.Tests.{not-true, not-false}
 use Rattle.model.specs.Machine.{wellFormed}
 use Rattle.model.proofs.Logic.{test-false, test-true}
+use Rattle.instruction.proofs.Rows.{formed-by-words}
 use Rattle.instruction.proofs.Laws.{form-malformed, form-plain-last, form-plain, form-early, form-halt, form-nowhere, form-end}
 use Rattle.instruction.proofs.form.Statement.{statement}
 use Rattle.instruction.proofs.form.Tie as tie
 
+-- the rows are those of the code, so Q7 by them is document 01's
+by-rows : (c : tie.After-well-formed) → c .well-formed .result ≡ wellFormed (c .before .args .w)
+by-rows c = let s = c .before in c .well-formed .ensures ∙ formed-by-words (s .args .w) (now (s .args .rows)) (s .pre .0)
+
 -- past Q7
 formed : (c : tie.Else1) → wellFormed (c .before .before .args .w) ≡ true
-formed c = test-true (c .before .well-formed .ensures) (c .if1 .left)
+formed c = test-true (by-rows (c .before)) (c .if1 .left)
 
 well-formed-requires : tie.Need-well-formed-requires
 well-formed-requires c κs = search needs
 
 returns : tie.Need-returns
-returns c = form-malformed _ _ _ _ (test-false (c .before .well-formed .ensures) (c .if1 .taken))
+returns c = form-malformed _ _ _ _ (test-false (by-rows (c .before)) (c .if1 .taken))
 
 returns-2 : tie.Need-returns-2
 returns-2 c = form-halt _ _ _ _ (formed (c .before .before)) (omega arith) (c .if3 .taken)

@@ -1,7 +1,7 @@
 -- `instruction::targets_exist` meets its contract.
 use native.Mathlib.Omega.{arith}
 use borrow.Author.Needs.{needs}
-use Rattle.instruction.proofs.Forms.{known}
+use Rattle.instruction.proofs.Parts.{known}
 use Rattle.instruction.proofs.Laws.{jumps, no-next, equal-target, less-target}
 use Rattle.instruction.proofs.targets_exist.Statement.{statement}
 use Rattle.instruction.proofs.targets_exist.Tie as tie

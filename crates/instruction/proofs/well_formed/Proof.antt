@@ -1,36 +1,41 @@
--- `instruction::well_formed` meets its contract: a word has its form where no bit is set that its opcode's row bars.
+-- `instruction::well_formed` meets its contract: it asks what the row of the word's opcode says.
 use denote.Ref.{now}
 use native.Mathlib.Omega.{arith}
 use borrow.Author.Needs.{needs}
-use Rattle.instruction.proofs.Laws.{opcode-past}
-use Rattle.instruction.proofs.Barred.{set-bit, divides, no-bit}
+use Rattle.instruction.proofs.Rows.{no-row, set-bit, no-bit}
 use Rattle.instruction.proofs.well_formed.Statement.{statement}
 use Rattle.instruction.proofs.well_formed.Tie as tie
 
--- a known opcode, and where its row was read
-abbrev start : tie.Else1 → tie.Start
-start c = c .before
+cast-op : tie.Need-cast-op
+cast-op c = search needs
 
 returns : tie.Need-returns
-returns c = opcode-past _ (omega arith)
-
-cast-set : tie.Need-cast-set
-cast-set c = search needs
+returns c = no-row _ (now (c .before .args .rows)) (omega arith)
 
 mul-set : tie.Need-mul-set
 mul-set c = search needs
 
-element-copy-out-set : tie.Need-element-copy-out-set
-element-copy-out-set c = search needs
+index-1-set : tie.Need-index-1-set
+index-1-set c = search needs
+
+index-2-set : tie.Need-index-2-set
+index-2-set c = search needs
 
 returns-2 : tie.Need-returns-2
-returns-2 c = let s = start (c .before .before) in set-bit _ (now (s .args .rows)) (omega arith) (c .if2 .taken) (s .pre)
+returns-2 c = let s = c .before .before .before in set-bit _ (now (s .args .rows)) (omega arith) (c .if2 .taken)
+
+mul-least : tie.Need-mul-least
+mul-least c = search needs
+
+index-1-least : tie.Need-index-1-least
+index-1-least c = search needs
+
+index-2-least : tie.Need-index-2-least
+index-2-least c = search needs
 
 returns-3 : tie.Need-returns-3
-returns-3 c = let s = start (c .before .before .before) in divides _ (now (s .args .rows)) (omega arith) (c .before .if2 .left) (s .pre)
-
-returns-4 : tie.Need-returns-4
-returns-4 c = let s = start (c .before .before .before) in no-bit _ (now (s .args .rows)) (omega arith) (c .if3 .left) (c .before .if2 .left) (s .pre)
+returns-3 c = let s = c .before .before .before .before in no-bit _ (now (s .args .rows)) (omega arith) (c .before .if2 .left)
 
 pub well-formed-spec : {M : Type 1} → statement M
-well-formed-spec = tie.close (tie.spec returns cast-set mul-set element-copy-out-set returns-2 returns-3 returns-4)
+well-formed-spec =
+    tie.close (tie.spec cast-op returns mul-set index-1-set index-2-set returns-2 mul-least index-1-least index-2-least returns-3)
