@@ -20,57 +20,57 @@ module _ (w : ℕ) where
   abbrev c : ℕ
   c = cOf w
 
-  pub row-0 : opcodeOf w ≡ 0 → decode w ≡ formed (unused a and unused b and unused c) (end halt)
+  pub decode-0 : opcodeOf w ≡ 0 → decode w ≡ formed (unused a and unused b and unused c) (end halt)
   unfolding decode byOpcode
-  row-0 e = rw e
+  decode-0 e = rw e
 
-  pub row-1 : opcodeOf w ≡ 1 → decode w ≡ formed (register a and unused b) (plain (constant a c))
+  pub decode-1 : opcodeOf w ≡ 1 → decode w ≡ formed (register a and unused b) (plain (constant a c))
   unfolding decode byOpcode
-  row-1 e = rw e
+  decode-1 e = rw e
 
-  pub row-2 : opcodeOf w ≡ 2 → decode w ≡ formed (register a and register b and unused c) (plain (copy a b))
+  pub decode-2 : opcodeOf w ≡ 2 → decode w ≡ formed (register a and register b and unused c) (plain (copy a b))
   unfolding decode byOpcode
-  row-2 e = rw e
+  decode-2 e = rw e
 
-  pub row-3 : opcodeOf w ≡ 3 → decode w ≡ formed (register a and register b and register c) (plain (add a b c))
+  pub decode-3 : opcodeOf w ≡ 3 → decode w ≡ formed (register a and register b and register c) (plain (add a b c))
   unfolding decode byOpcode
-  row-3 e = rw e
+  decode-3 e = rw e
 
-  pub row-4 : opcodeOf w ≡ 4 → decode w ≡ formed (register a and register b and register c) (plain (subtract a b c))
+  pub decode-4 : opcodeOf w ≡ 4 → decode w ≡ formed (register a and register b and register c) (plain (subtract a b c))
   unfolding decode byOpcode
-  row-4 e = rw e
+  decode-4 e = rw e
 
-  pub row-5 : opcodeOf w ≡ 5 → decode w ≡ formed (register a and register b and register c) (plain (multiply a b c))
+  pub decode-5 : opcodeOf w ≡ 5 → decode w ≡ formed (register a and register b and register c) (plain (multiply a b c))
   unfolding decode byOpcode
-  row-5 e = rw e
+  decode-5 e = rw e
 
-  pub row-6 : opcodeOf w ≡ 6 → decode w ≡ formed (register a and register b and nonzero c) (plain (divide a b c))
+  pub decode-6 : opcodeOf w ≡ 6 → decode w ≡ formed (register a and register b and nonzero c) (plain (divide a b c))
   unfolding decode byOpcode
-  row-6 e = rw e
+  decode-6 e = rw e
 
-  pub row-7 : opcodeOf w ≡ 7 → decode w ≡ formed (register a and register b) (plain (move a b c))
+  pub decode-7 : opcodeOf w ≡ 7 → decode w ≡ formed (register a and register b) (plain (move a b c))
   unfolding decode byOpcode
-  row-7 e = rw e
+  decode-7 e = rw e
 
-  pub row-8 : opcodeOf w ≡ 8 → decode w ≡ formed (register a and register b) (plain (load a b c))
+  pub decode-8 : opcodeOf w ≡ 8 → decode w ≡ formed (register a and register b) (plain (load a b c))
   unfolding decode byOpcode
-  row-8 e = rw e
+  decode-8 e = rw e
 
-  pub row-9 : opcodeOf w ≡ 9 → decode w ≡ formed (register a and register b) (plain (store a b c))
+  pub decode-9 : opcodeOf w ≡ 9 → decode w ≡ formed (register a and register b) (plain (store a b c))
   unfolding decode byOpcode
-  row-9 e = rw e
+  decode-9 e = rw e
 
-  pub row-10 : opcodeOf w ≡ 10 → decode w ≡ formed (unused a and unused b) (end (jump c))
+  pub decode-10 : opcodeOf w ≡ 10 → decode w ≡ formed (unused a and unused b) (end (jump c))
   unfolding decode byOpcode
-  row-10 e = rw e
+  decode-10 e = rw e
 
-  pub row-11 : opcodeOf w ≡ 11 → decode w ≡ formed (register a and unused b) (end (ifEqual a (c / 256) (c % 256)))
+  pub decode-11 : opcodeOf w ≡ 11 → decode w ≡ formed (register a and unused b) (end (ifEqual a (c / 256) (c % 256)))
   unfolding decode byOpcode
-  row-11 e = rw e
+  decode-11 e = rw e
 
-  pub row-12 : opcodeOf w ≡ 12 → decode w ≡ formed (register a and register b) (end (ifLess a b c))
+  pub decode-12 : opcodeOf w ≡ 12 → decode w ≡ formed (register a and register b) (end (ifLess a b c))
   unfolding decode byOpcode
-  row-12 e = rw e
+  decode-12 e = rw e
 
 -- ---- an opcode and its test
 

@@ -10,8 +10,8 @@ use Rattle.model.specs.Word.{opcodeOf, aOf, bOf, cOf}
 use Rattle.model.specs.Machine.{Plain, constant, copy, add, subtract, multiply, divide, move, load, store, End, halt, jump, ifEqual, ifLess}
 use Rattle.model.specs.Machine.{Instruction, plain, end, malformed, decode, hasForm, wellFormed, targetsExist, formAsk}
 use Rattle.model.proofs.Logic.{byTest, byEqual, byLess, and-true, answer-of, answer-none}
-use Rattle.instruction.proofs.Forms.{row-0, row-1, row-2, row-3, row-4, row-5, row-6, row-7, row-8, row-9, row-10, row-11, row-12}
-use Rattle.instruction.proofs.Forms.{decoded}
+use Rattle.instruction.proofs.Forms.{decode-0, decode-1, decode-2, decode-3, decode-4, decode-5, decode-6, decode-7, decode-8, decode-9}
+use Rattle.instruction.proofs.Forms.{decode-10, decode-11, decode-12, decoded}
 use Rattle.instruction.proofs.Parts.{known, registers, halt-c}
 use Rattle.instruction.specs.Form.{formNo, plainOf, endOf, targetOf, forks, Inside, Ending}
 
@@ -23,15 +23,15 @@ decode-plain w q l h =
     let a : ℕ = aOf w in
     let b : ℕ = bOf w in
     let c : ℕ = cOf w in
-    byLess (opcodeOf w) 2 (λ k. let o : opcodeOf w ≡ 1 = omega arith in decoded w _ (plain (constant a c)) refl (row-1 w o) q ∙ rw o)
-    (λ g2. byLess (opcodeOf w) 3 (λ k. let o : opcodeOf w ≡ 2 = omega arith in decoded w _ (plain (copy a b)) refl (row-2 w o) q ∙ rw o)
-    (λ g3. byLess (opcodeOf w) 4 (λ k. let o : opcodeOf w ≡ 3 = omega arith in decoded w _ (plain (add a b c)) refl (row-3 w o) q ∙ rw o)
-    (λ g4. byLess (opcodeOf w) 5 (λ k. let o : opcodeOf w ≡ 4 = omega arith in decoded w _ (plain (subtract a b c)) refl (row-4 w o) q ∙ rw o)
-    (λ g5. byLess (opcodeOf w) 6 (λ k. let o : opcodeOf w ≡ 5 = omega arith in decoded w _ (plain (multiply a b c)) refl (row-5 w o) q ∙ rw o)
-    (λ g6. byLess (opcodeOf w) 7 (λ k. let o : opcodeOf w ≡ 6 = omega arith in decoded w _ (plain (divide a b c)) refl (row-6 w o) q ∙ rw o)
-    (λ g7. byLess (opcodeOf w) 8 (λ k. let o : opcodeOf w ≡ 7 = omega arith in decoded w _ (plain (move a b c)) refl (row-7 w o) q ∙ rw o)
-    (λ g8. byLess (opcodeOf w) 9 (λ k. let o : opcodeOf w ≡ 8 = omega arith in decoded w _ (plain (load a b c)) refl (row-8 w o) q ∙ rw o)
-    (λ g9. let o : opcodeOf w ≡ 9 = omega arith in decoded w _ (plain (store a b c)) refl (row-9 w o) q ∙ rw o))))))))
+    byLess (opcodeOf w) 2 (λ k. let o : opcodeOf w ≡ 1 = omega arith in decoded w _ (plain (constant a c)) refl (decode-1 w o) q ∙ rw o)
+    (λ g2. byLess (opcodeOf w) 3 (λ k. let o : opcodeOf w ≡ 2 = omega arith in decoded w _ (plain (copy a b)) refl (decode-2 w o) q ∙ rw o)
+    (λ g3. byLess (opcodeOf w) 4 (λ k. let o : opcodeOf w ≡ 3 = omega arith in decoded w _ (plain (add a b c)) refl (decode-3 w o) q ∙ rw o)
+    (λ g4. byLess (opcodeOf w) 5 (λ k. let o : opcodeOf w ≡ 4 = omega arith in decoded w _ (plain (subtract a b c)) refl (decode-4 w o) q ∙ rw o)
+    (λ g5. byLess (opcodeOf w) 6 (λ k. let o : opcodeOf w ≡ 5 = omega arith in decoded w _ (plain (multiply a b c)) refl (decode-5 w o) q ∙ rw o)
+    (λ g6. byLess (opcodeOf w) 7 (λ k. let o : opcodeOf w ≡ 6 = omega arith in decoded w _ (plain (divide a b c)) refl (decode-6 w o) q ∙ rw o)
+    (λ g7. byLess (opcodeOf w) 8 (λ k. let o : opcodeOf w ≡ 7 = omega arith in decoded w _ (plain (move a b c)) refl (decode-7 w o) q ∙ rw o)
+    (λ g8. byLess (opcodeOf w) 9 (λ k. let o : opcodeOf w ≡ 8 = omega arith in decoded w _ (plain (load a b c)) refl (decode-8 w o) q ∙ rw o)
+    (λ g9. let o : opcodeOf w ≡ 9 = omega arith in decoded w _ (plain (store a b c)) refl (decode-9 w o) q ∙ rw o))))))))
 
 module _ (w : ℕ) where
   pub end-halt : opcodeOf w ≡ 0 → endOf w ≡ halt
@@ -53,12 +53,12 @@ module _ (w : ℕ) where
 pub decode-end : (w : ℕ) → wellFormed w ≡ true → (0 < opcodeOf w → 9 < opcodeOf w) → decode w ≡ end (endOf w)
 decode-end w q h =
     let k = known w q in
-    byEqual (opcodeOf w) 0 (λ o. decoded w _ _ refl (row-0 w o) q ∙ ap end (sym (end-halt w o)))
-    (λ n0. byEqual (opcodeOf w) 10 (λ o. decoded w _ _ refl (row-10 w o) q ∙ ap end (sym (end-jump w o)))
-    (λ n10. byEqual (opcodeOf w) 11 (λ o. decoded w _ _ refl (row-11 w o) q ∙ ap end (sym (end-equal w o)))
+    byEqual (opcodeOf w) 0 (λ o. decoded w _ _ refl (decode-0 w o) q ∙ ap end (sym (end-halt w o)))
+    (λ n0. byEqual (opcodeOf w) 10 (λ o. decoded w _ _ refl (decode-10 w o) q ∙ ap end (sym (end-jump w o)))
+    (λ n10. byEqual (opcodeOf w) 11 (λ o. decoded w _ _ refl (decode-11 w o) q ∙ ap end (sym (end-equal w o)))
     (λ n11. let l = h (omega arith) in
     let o : opcodeOf w ≡ 12 = omega arith in
-    decoded w _ _ refl (row-12 w o) q ∙ ap end (sym (end-less w o)))))
+    decoded w _ _ refl (decode-12 w o) q ∙ ap end (sym (end-less w o)))))
 
 -- ---- Q9
 

@@ -8,7 +8,7 @@ use native.Mathlib.Omega.{arith}
 use lib.Bits.{bitAnd, and-block, and-mask, and-high, and-zero-r}
 use lib.Pow.{pow-pos, pow-add, split}
 use lib.Dec.{ltb, leb, eqb}
-use lib.ListN.{getD}
+use lib.ListN.{length, getD}
 use borrow.Author.Tests.{lt-ltb, le-ltb, le-leb, eq-eqb, ne-eqb}
 use Rattle.model.specs.Question.{_and_}
 use Rattle.model.specs.Word.{opcodeOf, aOf, bOf, cOf}
@@ -125,12 +125,12 @@ module _ (w : ℕ) (rows : List (List ℕ)) where
 
   pub no-row : 13 ≤ opcodeOf w → false ≡ formedByWords rows w
   unfolding formedByWords _and_
-  no-row h = sym (rw (le-ltb (opcodeOf w) 13 h))
+  no-row h = sym (rw (le-ltb (opcodeOf w) (length useRows) (omega (arith, thirteen))))
 
   module _ (h : opcodeOf w < 13) where
     has-row : formedByWords rows w ≡ eqb (bitAnd w (getD found 0 0)) 0 and leb (getD found 1 0) (cOf w)
     unfolding formedByWords
-    has-row = and-yes _ _ (lt-ltb (opcodeOf w) 13 h)
+    has-row = and-yes _ _ (lt-ltb (opcodeOf w) (length useRows) (omega (arith, thirteen)))
 
     pub set-bit : (bitAnd w (getD found 0 0) ≡ 0 → ⊥) → false ≡ formedByWords rows w
     unfolding _and_

@@ -4,7 +4,7 @@ use mathlib.Core.Bool.{Bool}
 use Prim.Native.Nat.{ℕ, _+_, _-_, _*_, _^_}
 use lib.Bits.{bitAnd}
 use lib.Dec.{ltb, leb, eqb}
-use lib.ListN.{getD}
+use lib.ListN.{length, getD}
 use Rattle.model.specs.Question.{_and_}
 use Rattle.model.specs.Word.{opcodeOf, cOf}
 use Rattle.model.specs.Uses.{Use, unused, register, number, divisor, Row, useRows}
@@ -38,4 +38,4 @@ opcodeRows = map rowWords useRows
 unfoldable pub formedByWords : List (List ℕ) → ℕ → Bool
 formedByWords rows w =
     let row = getD rows (opcodeOf w) [] in
-    ltb (opcodeOf w) 13 and eqb (bitAnd w (getD row 0 0)) 0 and leb (getD row 1 0) (cOf w)
+    ltb (opcodeOf w) (length useRows) and eqb (bitAnd w (getD row 0 0)) 0 and leb (getD row 1 0) (cOf w)
