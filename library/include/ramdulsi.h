@@ -58,9 +58,9 @@ extern "C" {
 #endif
 
 /* The version of this header, and of the archive that it comes with. */
-#define RAMDULSI_VERSION "0.2.0"
+#define RAMDULSI_VERSION "0.3.0"
 #define RAMDULSI_VERSION_MAJOR 0
-#define RAMDULSI_VERSION_MINOR 2
+#define RAMDULSI_VERSION_MINOR 3
 #define RAMDULSI_VERSION_PATCH 0
 
 /* Bytes of stack that a thread needs for ramdulsi_check and ramdulsi_run, and for ramdulsi_memory_check and ramdulsi_entry_check, which

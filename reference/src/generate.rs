@@ -95,7 +95,7 @@ fn plain(r: &mut Random) -> u32 {
         1 => (2, b, 0),
         2 => (3 + r.below(3) as u32, b, r.below(8) as u32),
         3 => (6, b, 1 + r.below(9) as u32),
-        4 | 5 => (7, b, r.pick(&[0, 1, 2, 3, 4, 8, 65535, 65534, 65533, 65532])),
+        4 | 5 => (7, b, r.pick(&[0, 1, 2, 3, 4, 5, 6, 8, 65535, 65534, 65533, 65532])),
         6..=8 => (8, b, r.below(4) as u32),
         _ => (9, b, r.below(4) as u32),
     };
@@ -112,7 +112,44 @@ fn ending(r: &mut Random, count: usize, last: bool) -> u32 {
     }
 }
 
-fn routine(r: &mut Random, type_count: usize) -> (Vec<u32>, Vec<u32>) {
+/// A routine that goes through a run by the size of its records: a Run in block 0, From in block 1, In in block 3, where the step is made
+/// after instructions that leave place and bounds alone.
+fn walk(r: &mut Random, types: &[u32]) -> (Vec<u32>, Vec<u32>) {
+    let t = r.below(types.len() / 9);
+    let (size, place) = (types[t * 9], r.below(8));
+    let (start, end) = ((place + 1) % 8, (place + 2) % 8);
+    let shared: Vec<u32> = (0..8).map(|_| any_type(r, types.len() / 9, 8)).collect();
+    let body: Vec<u32> = (0..r.below(6)).map(|_| walk_step(r, [place, start, end], size)).collect();
+    let mut blocks = Vec::new();
+    for (n, kind) in [(1, RUN), (1, FROM), (1, 0), (body.len() + 2, IN)] {
+        blocks.push(n as u32);
+        let at_place = if kind == 0 { 0 } else { type_word(kind, t, start, end) };
+        blocks.extend((0..8).map(|i| if i == place { at_place } else { shared[i] }));
+    }
+    let if_less = |b: usize, to: u32| 12 << 24 | (place as u32) << 20 | (b as u32) << 16 | to;
+    let step = if r.chance(6) { size * r.below(4) as u32 } else { size };
+    let mut code = vec![if_less(start, 2), if_less(end, 3), 0];
+    code.extend(body);
+    code.extend([7 << 24 | (place as u32) << 20 | (place as u32) << 16 | step, 10 << 24 | 1]);
+    (blocks, code)
+}
+
+/// An instruction inside a walk: often a load or store of the record that the walk has come to.
+fn walk_step(r: &mut Random, [place, start, end]: [usize; 3], size: u32) -> u32 {
+    let w = plain(r);
+    let (op, a) = (w >> 24, (w >> 20 & 7) as usize);
+    let w = if op >= 8 && !r.chance(3) { w & 0xfff0_0000 | (place as u32) << 16 | r.below(size as usize) as u32 } else { w };
+    if op != 9 && [place, start, end].contains(&a) {
+        return w & 0xff0f_ffff | (((end + 1 + r.below(5)) % 8) as u32) << 20;
+    }
+    w
+}
+
+fn routine(r: &mut Random, types: &[u32]) -> (Vec<u32>, Vec<u32>) {
+    if r.chance(6) {
+        return walk(r, types);
+    }
+    let type_count = types.len() / 9;
     let count = 1 + r.below(5);
     let (mut blocks, mut code) = (Vec::new(), Vec::new());
     let shared: Vec<u32> = (0..8).map(|_| any_type(r, type_count, 8)).collect();
@@ -267,7 +304,7 @@ fn registers(r: &mut Random, c: &mut Case) {
 pub fn case(r: &mut Random) -> Case {
     let mut c = Case::default();
     (c.types, c.tags) = types(r);
-    (c.blocks, c.code) = routine(r, c.types.len() / 9);
+    (c.blocks, c.code) = routine(r, &c.types);
     c.budget = r.below(12) as u64;
     repair_routine(r, &mut c);
     memory(r, &mut c);
@@ -277,7 +314,7 @@ pub fn case(r: &mut Random) -> Case {
 
 /// Another routine over the same record types, tags and memory.
 pub fn another(r: &mut Random, first: &Case) -> Case {
-    let (blocks, code) = routine(r, first.types.len() / 9);
+    let (blocks, code) = routine(r, &first.types);
     let mut c = Case { blocks, code, ..first.clone() };
     repair_routine(r, &mut c);
     registers(r, &mut c);

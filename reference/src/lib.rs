@@ -1,4 +1,5 @@
-//! Document 01 in plain Rust, written from the document alone: the other side of the differential tests and of the benchmark.
+//! Document 01 with the cards of document 02 that have landed, in plain Rust, written from the documents alone: the other side of the differential
+//! tests and of the benchmark.
 
 pub mod checks;
 pub mod forms;

@@ -122,17 +122,26 @@ impl<'a> Reading<'a> {
         self.fresh(a, UNKNOWN);
     }
 
+    /// The kind that a value of this type word has after opcode 7, None for Any: In by the size of a record is From; a run by whole records
+    /// of 1, 2, 4 or 8 words is Run.
+    fn moved_kind(&self, word: u32, c: u32) -> Option<u32> {
+        if kind(word) < RUN {
+            return None;
+        }
+        let n = self.types.size(record(word)) as u32;
+        if kind(word) == IN && c == n {
+            return Some(FROM);
+        }
+        (n.is_power_of_two() && c % n == 0).then_some(RUN)
+    }
+
     /// Opcode 7.
     pub fn moved(&mut self, a: usize, b: usize, c: u32) {
         let Value { word, siblings, .. } = self.held(b);
-        if kind(word) >= RUN {
-            let n = self.types.size(record(word)) as u32;
-            if n.is_power_of_two() && c % n == 0 {
-                self.fresh(a, Value { word: with_kind(word, RUN), siblings, constant: None });
-                return;
-            }
+        match self.moved_kind(word, c) {
+            Some(kind) => self.fresh(a, Value { word: with_kind(word, kind), siblings, constant: None }),
+            None => self.unknown(a),
         }
-        self.unknown(a);
     }
 
     // ---- known constants, known equal

@@ -10,7 +10,7 @@ use Rattle.model.specs.Machine.{formed, byOpcode, decode, effect, addres
 use Rattle.model.specs.Machine.{step, onward, finish, steps, runBlocks, answerOf, runAsk, opened, run, carryOut, formAsk}
 use Rattle.model.specs.Reading.{typed, constantsOf, some, sameDep, isSame, saysSame, knownEqual, tagOf, beyond, knownTag, knownZero, isRef}
 use Rattle.model.specs.Reading.{isMaybe, isTagged, isPresent, isSpan, fits, rowFits, firstTag, referenceOf, laidAt, zeros, upFrom, entry, born}
-use Rattle.model.specs.Reading.{fresh, moves, movedWord, loaded, viewed, look, stored, notZero, below, notBelow, taken, untaken}
+use Rattle.model.specs.Reading.{fresh, onSpan, moves, walks, movedWord, loaded, viewed, look, stored, notZero, below, notBelow, taken, untaken}
 use Rattle.model.specs.Check.{withReference, onRecord, readPlain, readEdges, readInstruction, readOn, blockAsk, judge, checkAsk, check, readEnd}
 use Rattle.model.specs.MemoryCheck.{whenTrue, unlessTrue, startsTest, runTest, rankTest, tagTest, meets, fieldAsk, recordsAsk, registerAsk}
 use Rattle.model.specs.MemoryCheck.{layoutAsk, memoryAsk, memoryCheck, entryAsk, entryCheck, routineAsk}
@@ -27,7 +27,7 @@ unfolding
     formed byOpcode decode targetsExist formAsk effect addressed registersAfter memoryAfter next leave carryOut perform step
     onward finish steps runBlocks answerOf runAsk opened run
     typed constantsOf some sameDep isSame saysSame knownEqual tagOf beyond knownTag knownZero isRef isMaybe isTagged isPresent
-    isSpan fits rowFits firstTag referenceOf laidAt zeros upFrom entry born fresh moves movedWord loaded viewed look stored
+    isSpan fits rowFits firstTag referenceOf laidAt zeros upFrom entry born fresh onSpan moves walks movedWord loaded viewed look stored
     notZero below notBelow taken untaken
     withReference onRecord readPlain readEdges readEnd readInstruction readOn blockAsk judge tablesAsk checkAsk check
     whenTrue unlessTrue startsTest runTest rankTest tagTest meets fieldAsk recordsAsk registerAsk layoutAsk memoryAsk memoryCheck

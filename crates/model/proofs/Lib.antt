@@ -16,6 +16,7 @@ pub mod AllocationRules
 pub mod Invariant
 pub mod FitsSound
 pub mod Decode
+pub mod Walk
 pub mod StepSound
 pub mod EdgeSound
 pub mod BlockSound

@@ -18,16 +18,16 @@ use Rattle.model.specs.Table.{Tables}
 use Rattle.model.specs.Machine.{Plain, constant, copy, add, subtract, multiply, divide, move, load, store}
 use Rattle.model.specs.Rules.{Fits}
 use Rattle.model.specs.ReadingRules.{BlockState, holding, giving, closing, opening, PowerOfTwo, size-1, size-2, size-4, size-8, Divides}
-use Rattle.model.specs.ReadingRules.{RowFits, Moves, MayAccess, Sees, newly, again, Closes, Reads, copies, constants, adds, subtracts}
-use Rattle.model.specs.ReadingRules.{multiplies, divides, moves-any, moves-run, loads, opens, closes, AccessNo, no-reference, past-the-size}
-use Rattle.model.specs.ReadingRules.{another-open, PlainNo, load-no, store-no}
-use Rattle.model.specs.Reading.{Values, birthplace, typed, rowFits, referenceOf, Reading, fresh, powerOfTwo, moves, movedWord, isOpen, seen}
-use Rattle.model.specs.Reading.{viewed, look, loaded, stored}
+use Rattle.model.specs.ReadingRules.{RowFits, Moves, Walks, NoMove, NoWalk, MayAccess, Sees, newly, again, Closes, Reads, copies, constants}
+use Rattle.model.specs.ReadingRules.{adds, subtracts, multiplies, divides, moves-any, moves-from, moves-run, loads, opens, closes, AccessNo, no-reference}
+use Rattle.model.specs.ReadingRules.{past-the-size, another-open, PlainNo, load-no, store-no}
+use Rattle.model.specs.Reading.{Values, birthplace, typed, rowFits, referenceOf, Reading, fresh, powerOfTwo, onSpan, moves, walks, movedWord}
+use Rattle.model.specs.Reading.{isOpen, seen, viewed, look, loaded, stored}
 use Rattle.model.specs.Check.{valueIn, withReference, referenceIn, mayTouch, onRecord, readPlain}
 use Rattle.model.proofs.Logic.{byTest, byLess, either, true-and, or-true, true-or, or-of-true, not-true, every-true, true-every, ok-same}
 use Rattle.model.proofs.Logic.{not-ok, refused-same, pick-both}
 use Rattle.model.proofs.RulesDecide.{optionOf, knownOf, fits-rule, rule-fits}
-use Rattle.model.proofs.Inversion.{record-ok, moves-span}
+use Rattle.model.proofs.Inversion.{record-ok, moves-span, walks-span}
 use Rattle.model.proofs.Decode.{PlainFine}
 use Rattle.model.proofs.Tidy.{Tidy, look-tidy}
 use Rattle.model.proofs.Mean.{kinded}
@@ -71,19 +71,37 @@ divides-signed z c S h e = byLess c (2 ^ 15) (λ l. rw (lt-ltb c (2 ^ 15) l) e) 
 signed-divides : (z c : ℕ) → PowerOfTwo z → c < 2 ^ 16 → Divides z (signed c) → c % z ≡ 0
 signed-divides z c S h D = byLess c (2 ^ 15) (λ l. rw (lt-ltb c (2 ^ 15) l) at D) (λ l. unwraps z c S h (rw (le-ltb c (2 ^ 15) l) at D))
 
+-- a type over other names is a span only where the type is one
+record Spanned (ty : Ty) (k t : ℕ) : Type 0 where
+  first : Dep
+  second : Dep
+  is : ty ≡ span k t first second
+
+spanned : (σ : ℕ → ℕ) (ty : Ty) (k t : ℕ) (d e : Dep) → rename σ ty ≡ span k t d e → Spanned ty k t
+unfolding rename
+spanned σ any k t d e h = absurd (let z : _≡_ {A = ℕ} 0 1 = cc in omega arith)
+spanned σ (ref u) k t d e h = absurd (let z : _≡_ {A = ℕ} 0 1 = cc in omega arith)
+spanned σ (maybe u) k t d e h = absurd (let z : _≡_ {A = ℕ} 0 1 = cc in omega arith)
+spanned σ (tagged x) k t d e h = absurd (let z : _≡_ {A = ℕ} 0 1 = cc in omega arith)
+spanned σ (present x) k t d e h = absurd (let z : _≡_ {A = ℕ} 0 1 = cc in omega arith)
+spanned σ (same x) k t d e h = absurd (let z : _≡_ {A = ℕ} 0 1 = cc in omega arith)
+spanned σ (span j u x y) k t d e h =
+    let kj : j ≡ k = cc in
+    let ut : u ≡ t = cc in
+    record { first = x; second = y; is = rw (kj, ut) refl }
+
 module _ (𝒯 : Tables) where
   renamed-moves : (σ : ℕ → ℕ) (ty : Ty) (c t : ℕ) (d e : Dep) → c < 2 ^ 16 → Moves 𝒯 (rename σ ty) c t d e → moves 𝒯 ty c ≡ true
-  unfolding rename moves
-  renamed-moves σ any c t d e l M = absurd (let h = M .is in let z : _≡_ {A = ℕ} 0 1 = cc in omega arith)
-  renamed-moves σ (ref u) c t d e l M = absurd (let h = M .is in let z : _≡_ {A = ℕ} 0 1 = cc in omega arith)
-  renamed-moves σ (maybe u) c t d e l M = absurd (let h = M .is in let z : _≡_ {A = ℕ} 0 1 = cc in omega arith)
-  renamed-moves σ (tagged x) c t d e l M = absurd (let h = M .is in let z : _≡_ {A = ℕ} 0 1 = cc in omega arith)
-  renamed-moves σ (present x) c t d e l M = absurd (let h = M .is in let z : _≡_ {A = ℕ} 0 1 = cc in omega arith)
-  renamed-moves σ (same x) c t d e l M = absurd (let h = M .is in let z : _≡_ {A = ℕ} 0 1 = cc in omega arith)
-  renamed-moves σ (span k u x y) c t d e l M =
-      let h = M .is in
-      let ut : u ≡ t = cc in
-      rw ut (true-and _ _ (is-power (𝒯 .size t) (M .power)) (eq-eqb _ _ (signed-divides (𝒯 .size t) c (M .power) l (M .divided))))
+  unfolding moves onSpan
+  renamed-moves σ ty c t d e l M =
+      let S = spanned σ ty (M .rank) t d e (M .is) in
+      rw (S .is) (true-and _ _ (is-power (𝒯 .size t) (M .power)) (eq-eqb _ _ (signed-divides (𝒯 .size t) c (M .power) l (M .divided))))
+
+  renamed-walks : (σ : ℕ → ℕ) (ty : Ty) (c t : ℕ) (d e : Dep) → Walks 𝒯 (rename σ ty) c t d e → walks 𝒯 ty c ≡ true
+  unfolding walks onSpan
+  renamed-walks σ ty c t d e W =
+      let S = spanned σ ty 2 t d e (W .is) in
+      rw (S .is, W .one-size) (true-and _ _ refl (eq-eqb (𝒯 .size t) (𝒯 .size t) refl))
 
   -- ---- a row of values fits
 
@@ -176,6 +194,19 @@ module _ (𝒯 : Tables) where
         let power = power-is _ (S .step) in
         record { rank = S .rank; is = rw (S .is) refl; power = power; divided = divides-signed _ c power l (S .multiple) }
 
+    span-walks : (b c : ℕ) → walks 𝒯 (typeOf (wordIn b)) c ≡ true
+        → Walks 𝒯 (typed (st .values) (valueIn st b)) c (recordOf (wordIn b))
+        (over b (depOf (firstOf (wordIn b)))) (over b (depOf (secondOf (wordIn b))))
+    unfolding rename typed over
+    span-walks b c q = let S = walks-span 𝒯 (wordIn b) c q in record { is = rw (S .is) refl; one-size = S .one-size }
+
+    no-walk : (b c : ℕ) → walks 𝒯 (typeOf (wordIn b)) c ≡ false → NoWalk 𝒯 (typed (st .values) (valueIn st b)) c
+    unfolding typed
+    no-walk b c o t d e W = false≢true (sym o ∙ renamed-walks (λ x. frameIn b + x) (typeOf (wordIn b)) c t d e W)
+
+    not-walks : (b c : ℕ) → NoWalk 𝒯 (typed (st .values) (valueIn st b)) c → walks 𝒯 (typeOf (wordIn b)) c ≡ false
+    not-walks b c N = byTest (walks 𝒯 (typeOf (wordIn b)) c) (λ o. absurd (N _ _ _ (span-walks b c o))) (λ o. o)
+
     moved-state : (a b c : ℕ)
         → stateOf (fresh st (suc j) a (movedWord 𝒯 (wordIn b) c) (frameIn b) 0) ≡ giving j (stateOf st) a (movedType b c) none
     moved-state a b c = fresh-state st j a (movedWord 𝒯 (wordIn b) c) (frameIn b) 0 T small (inl refl)
@@ -183,9 +214,12 @@ module _ (𝒯 : Tables) where
     moved-reads : (a b c : ℕ) → c < 2 ^ 16 → Reads 𝒯 j (stateOf st) (move a b c) (giving j (stateOf st) a (movedType b c) none)
     unfolding movedWord rename typed over
     moved-reads a b c l =
-        byTest (moves 𝒯 (typeOf (wordIn b)) c)
-        (λ q. let M = span-moves b c l q in rw (q, kinded 6 (wordIn b)) (moves-run M))
-        (λ q. rw q (unfold typeOf in (moves-any (λ t d e M. false≢true (sym q ∙ renamed-moves (λ x. frameIn b + x) (typeOf (wordIn b)) c t d e l M)))))
+        byTest (walks 𝒯 (typeOf (wordIn b)) c)
+        (λ o. let W = span-walks b c o in rw (o, kinded 7 (wordIn b)) (moves-from W))
+        (λ o. byTest (moves 𝒯 (typeOf (wordIn b)) c)
+        (λ q. let M = span-moves b c l q in rw (o, q, kinded 6 (wordIn b)) (moves-run M (no-walk b c o)))
+        (λ q. rw (o, q) (unfold typeOf in (moves-any
+        (λ t d e M. false≢true (sym q ∙ renamed-moves (λ x. frameIn b + x) (typeOf (wordIn b)) c t d e l M)) (no-walk b c o)))))
 
     abbrev looked : ℕ → ℕ → Reading
     looked b t = look 𝒯 st (suc j) (valueIn st b) t
@@ -252,21 +286,38 @@ module _ (𝒯 : Tables) where
     touched : (b c t : ℕ) → Accessible st b c t → Touchable st (valueIn st b)
     touched b c t A = rule-touch st (valueIn st b) (A .touch)
 
-    move-one : (a b c t : ℕ) (d e : Dep) → c < 2 ^ 16 → Moves 𝒯 (typed (st .values) (valueIn st b)) c t d e → movedType b c ≡ span 0 t d e
+    -- the type after a move is the one that its rule gives
+    move-from : (b c t : ℕ) (d e : Dep) → Walks 𝒯 (typed (st .values) (valueIn st b)) c t d e → movedType b c ≡ span 1 t d e
     unfolding movedWord rename typed
-    move-one a b c t d e l M =
+    move-from b c t d e W =
+        let o : walks 𝒯 (typeOf (wordIn b)) c ≡ true = renamed-walks (λ x. frameIn b + x) (typeOf (wordIn b)) c t d e W in
+        let S = walks-span 𝒯 (wordIn b) c o in
+        let i = W .is in
+        let h = rw (S .is) at i in
+        rw (o, kinded 7 (wordIn b)) cc
+
+    move-run : (b c t : ℕ) (d e : Dep) → c < 2 ^ 16 → Moves 𝒯 (typed (st .values) (valueIn st b)) c t d e
+        → NoWalk 𝒯 (typed (st .values) (valueIn st b)) c → movedType b c ≡ span 0 t d e
+    unfolding movedWord rename typed
+    move-run b c t d e l M N =
         let q : moves 𝒯 (typeOf (wordIn b)) c ≡ true = renamed-moves (λ x. frameIn b + x) (typeOf (wordIn b)) c t d e l M in
         let S = moves-span 𝒯 (wordIn b) c q in
         let i = M .is in
         let h = rw (S .is) at i in
-        rw (q, kinded 6 (wordIn b)) cc
+        rw (not-walks b c N, q, kinded 6 (wordIn b)) cc
 
-    move-none : (b c : ℕ) → c < 2 ^ 16 → ((t : ℕ) (d e : Dep) → Moves 𝒯 (typed (st .values) (valueIn st b)) c t d e → ⊥) → movedType b c ≡ any
+    move-any : (b c : ℕ) → c < 2 ^ 16 → NoMove 𝒯 (typed (st .values) (valueIn st b)) c
+        → NoWalk 𝒯 (typed (st .values) (valueIn st b)) c → movedType b c ≡ any
     unfolding movedWord rename typed
-    move-none b c l N =
+    move-any b c l M N =
         byTest (moves 𝒯 (typeOf (wordIn b)) c)
-        (λ q. absurd (N _ _ _ (span-moves b c l q)))
-        (λ q. rw q (unfold typeOf in refl))
+        (λ q. absurd (M _ _ _ (span-moves b c l q)))
+        (λ q. rw (not-walks b c N, q) (unfold typeOf in refl))
+
+    moved-after : (a b c : ℕ) (ty : Ty) → movedType b c ≡ ty → PassedPlain place j st (move a b c) (giving j (stateOf st) a ty none)
+    unfolding readPlain
+    moved-after a b c ty e =
+        record { reading = _; passes = refl; holds-after = moved-state a b c ∙ ap (λ (x : Ty). giving j (stateOf st) a x none) e }
 
     -- the record whose fields are seen closes once register a is stored at c
     abbrev ClosesWith : ℕ → ℕ → ℕ → List ℕ × BlockState → Type 0
@@ -280,18 +331,9 @@ module _ (𝒯 : Tables) where
     reads-plain (subtract a b c) F s' subtracts = record { reading = _; passes = refl; holds-after = any-state a 0 }
     reads-plain (multiply a b c) F s' multiplies = record { reading = _; passes = refl; holds-after = any-state a 0 }
     reads-plain (divide a b c) F s' divides = record { reading = _; passes = refl; holds-after = any-state a 0 }
-    reads-plain (move a b c) F s' (moves-run {t = t} {d = d} {e = e} M) =
-        record {
-          reading = _;
-          passes = refl;
-          holds-after = moved-state a b c ∙ ap (λ (ty : Ty). giving j (stateOf st) a ty none) (move-one a b c t d e (F .1) M);
-        }
-    reads-plain (move a b c) F s' (moves-any N) =
-        record {
-          reading = _;
-          passes = refl;
-          holds-after = moved-state a b c ∙ ap (λ (ty : Ty). giving j (stateOf st) a ty none) (move-none b c (F .1) N);
-        }
+    reads-plain (move a b c) F s' (moves-from {t = t} {d = d} {e = e} W) = moved-after a b c (span 1 t d e) (move-from b c t d e W)
+    reads-plain (move a b c) F s' (moves-run {t = t} {d = d} {e = e} M N) = moved-after a b c (span 0 t d e) (move-run b c t d e (F .1) M N)
+    reads-plain (move a b c) F s' (moves-any M N) = moved-after a b c any (move-any b c (F .1) M N)
     reads-plain (load a b c) F s' (loads {t = t} {fields = fields} {s' = s₁} A S) =
         let (f, e) = sees-one (looked-sees b t (touched b c t A)) S in
         record {

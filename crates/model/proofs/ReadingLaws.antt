@@ -13,7 +13,7 @@ use Rattle.model.specs.Table.{Tables, tablesOf, Code, Routine, routineOf
 use Rattle.model.specs.Machine.{Plain, load, store, Instruction, plain, instructionAt}
 use Rattle.model.specs.Rules.{Known}
 use Rattle.model.specs.ReadingRules.{made, eightMade, BlockState, holds, knowing, seeing, MayAccess, Sees, newly, again, Closes, Reads, copies}
-use Rattle.model.specs.ReadingRules.{constants, adds, subtracts, multiplies, divides, moves-any, moves-run, loads, opens, closes, Reaches}
+use Rattle.model.specs.ReadingRules.{constants, adds, subtracts, multiplies, divides, moves-any, moves-from, moves-run, loads, opens, closes, Reaches}
 use Rattle.model.specs.ReadingRules.{enters, reads-on}
 use Rattle.model.proofs.Logic.{byEqual}
 use Rattle.model.proofs.Decode.{Fine, decode-fine}
@@ -75,8 +75,9 @@ module _ (𝒯 : Tables) where
   reads-registers j s s' x (subtracts {a = a}) = length-set (s .registers) a _
   reads-registers j s s' x (multiplies {a = a}) = length-set (s .registers) a _
   reads-registers j s s' x (divides {a = a}) = length-set (s .registers) a _
-  reads-registers j s s' x (moves-any {a = a} M) = length-set (s .registers) a _
-  reads-registers j s s' x (moves-run {a = a} M) = length-set (s .registers) a _
+  reads-registers j s s' x (moves-any {a = a} M W) = length-set (s .registers) a _
+  reads-registers j s s' x (moves-from {a = a} W) = length-set (s .registers) a _
+  reads-registers j s s' x (moves-run {a = a} M W) = length-set (s .registers) a _
   reads-registers j s s' x (loads {a = a} {b = b} {t = t} {fields = fs} {s' = s₁} A S) =
       length-set (s₁ .registers) a _ ∙ sees-registers j (holds s b) t s s₁ fs S
   reads-registers j s s' x (opens {b = b} {t = t} {fields = fs} {s' = s₁} A S N) = sees-registers j (holds s b) t s s₁ fs S
@@ -104,8 +105,9 @@ module _ (𝒯 : Tables) where
   reads-eight j s s' x subtracts H = H
   reads-eight j s s' x multiplies H = H
   reads-eight j s s' x divides H = H
-  reads-eight j s s' x (moves-any M) H = H
-  reads-eight j s s' x (moves-run M) H = H
+  reads-eight j s s' x (moves-any M W) H = H
+  reads-eight j s s' x (moves-from W) H = H
+  reads-eight j s s' x (moves-run M W) H = H
   reads-eight j s s' x (loads {b = b} {t = t} {fields = fs} {s' = s₁} A S) H = sees-eight j (holds s b) t s s₁ fs S H .1
   reads-eight j s s' (store a b c) (opens {t = t} {fields = fs} {s' = s₁} A S N) H =
       let (l, K) = sees-eight j (holds s b) t s s₁ fs S H in
@@ -147,8 +149,9 @@ module _ (𝒯 : Tables) where
   keeps j v c w s s' x N subtracts H = record { fields = H .fields; seen = H .seen; value = H .value }
   keeps j v c w s s' x N multiplies H = record { fields = H .fields; seen = H .seen; value = H .value }
   keeps j v c w s s' x N divides H = record { fields = H .fields; seen = H .seen; value = H .value }
-  keeps j v c w s s' x N (moves-any M) H = record { fields = H .fields; seen = H .seen; value = H .value }
-  keeps j v c w s s' x N (moves-run M) H = record { fields = H .fields; seen = H .seen; value = H .value }
+  keeps j v c w s s' x N (moves-any M W) H = record { fields = H .fields; seen = H .seen; value = H .value }
+  keeps j v c w s s' x N (moves-from W) H = record { fields = H .fields; seen = H .seen; value = H .value }
+  keeps j v c w s s' x N (moves-run M W) H = record { fields = H .fields; seen = H .seen; value = H .value }
   keeps j v c w s s' x N (loads {b = b} {t = t} {fields = fs} {s' = s₁} A S) H =
       let I = sees-keeps j (holds s b) t v c w s s₁ fs S H in
       record { fields = I .fields; seen = I .seen; value = I .value }
@@ -221,8 +224,9 @@ module _ (𝒯 : Tables) where
   stays-after k j v c s s' x h l N subtracts H = H
   stays-after k j v c s s' x h l N multiplies H = H
   stays-after k j v c s s' x h l N divides H = H
-  stays-after k j v c s s' x h l N (moves-any M) H = H
-  stays-after k j v c s s' x h l N (moves-run M) H = H
+  stays-after k j v c s s' x h l N (moves-any M W) H = H
+  stays-after k j v c s s' x h l N (moves-from W) H = H
+  stays-after k j v c s s' x h l N (moves-run M W) H = H
   stays-after k j v c s s' x h l N (loads {b = b} {t = t} {fields = fs} {s' = s₁} A S) H = look-after k j (holds s b) t v c s s₁ fs h l S H
   stays-after k j v c s s' (store a b d) h l N (opens {t = t} {fields = fs} {s' = s₁} A S C) H =
       seeing-after k v (holds s b) c (set fs d (holds s a)) s₁ here (look-after k j (holds s b) t v c s s₁ fs h l S H)

@@ -1,4 +1,5 @@
--- 01: 'Plots on trial': the cases marked *, gathered under one statement; it is proved in proofs/Answers.antt.
+-- 01: 'Plots on trial': the cases marked *, and what document 02 adds to them, gathered under one statement; it is proved in
+-- proofs/Answers.antt.
 use mathlib.Core.Path.{_≡_}
 use mathlib.Core.List.{List, [], _∷_, _++_}
 use Prim.Native.Nat.{ℕ, _+_, _*_, _^_}
@@ -31,6 +32,9 @@ sameWord d = typeWord 5 0 d 0
 abbrev pub runWord : ℕ → ℕ → ℕ → ℕ
 runWord t d e = typeWord 6 t d e
 
+abbrev pub fromWord : ℕ → ℕ → ℕ → ℕ
+fromWord t d e = typeWord 7 t d e
+
 abbrev pub inWord : ℕ → ℕ → ℕ → ℕ
 inWord t d e = typeWord 8 t d e
 
@@ -39,6 +43,18 @@ instruction opcode a b c = opcode * 2 ^ 24 + a * 2 ^ 20 + b * 2 ^ 16 + c
 
 abbrev pub haltWord : ℕ
 haltWord = instruction 0 0 0 0
+
+abbrev pub constantWord : ℕ → ℕ → ℕ
+constantWord a c = instruction 1 a 0 c
+
+abbrev pub subtractWord : ℕ → ℕ → ℕ → ℕ
+subtractWord a b c = instruction 4 a b c
+
+abbrev pub multiplyWord : ℕ → ℕ → ℕ → ℕ
+multiplyWord a b c = instruction 5 a b c
+
+abbrev pub divideWord : ℕ → ℕ → ℕ → ℕ
+divideWord a b c = instruction 6 a b c
 
 abbrev pub moveWord : ℕ → ℕ → ℕ → ℕ
 moveWord a b c = instruction 7 a b c
@@ -104,6 +120,25 @@ moveBlocks = row 2 0 (runWord 0 2 3) 0 0 0 0 0 0 ++ row 1 0 (runWord 0 2 3) 0 0 
 abbrev pub threeTypes : List ℕ
 threeTypes = row 3 0 0 0 0 0 0 0 0
 
+-- the type word after opcode 7 by c, of records of three words
+abbrev pub threeMoved : ℕ → ℕ → ℕ
+threeMoved w c = movedWord (tablesOf threeTypes []) w c
+
+-- r1 of type word w is moved by three, and block 1 wants v of it
+abbrev pub threeOnCheck : ℕ → ℕ → Verdict
+threeOnCheck w v =
+    check threeTypes [] (codeOf (row 2 0 w 0 0 0 0 0 0 ++ row 1 0 v 0 0 0 0 0 0) (moveWord 1 1 3 ∷ jumpWord 1 ∷ haltWord ∷ []))
+
+-- 02: 'Our new plot record has three fields', here weight, moisture and corrected weight. r1 is In the run of them from r2 to r3; each gets
+-- its corrected weight, weight * (100 - moisture) / 86.
+abbrev pub threeWalk : List ℕ
+threeWalk =
+    loadWord 4 1 0 ∷ loadWord 5 1 1 ∷ constantWord 6 100 ∷ subtractWord 5 6 5 ∷ multiplyWord 4 4 5 ∷ divideWord 4 4 86 ∷ storeWord 4 1 2
+    ∷ moveWord 1 1 3 ∷ ifLessWord 1 3 0 ∷ haltWord ∷ []
+
+abbrev pub threeWalkBlocks : List ℕ
+threeWalkBlocks = row 9 0 (inWord 0 2 3) 0 0 0 0 0 0 ++ row 1 0 0 0 0 0 0 0 0
+
 -- ---- the cases
 
 pub record Cases : Type 0 where
@@ -118,8 +153,23 @@ pub record Cases : Type 0 where
   pub twoBackMeets : plotCheck moveBlocks (moveWord 1 1 65534 ∷ jumpWord 1 ∷ haltWord ∷ []) ≡ verdict 0 0 0
   pub threeOn : movedWord (tablesOf plotTypes plotTags) (runWord 0 2 3) 3 ≡ anyWord
   pub threeOnMisses : plotCheck moveBlocks (moveWord 1 1 3 ∷ jumpWord 1 ∷ haltWord ∷ []) ≡ verdict 14 0 1
-  pub sizeThree : movedWord (tablesOf threeTypes []) (runWord 0 2 3) 3 ≡ anyWord
-  pub sizeThreeMisses : check threeTypes [] (codeOf moveBlocks (moveWord 1 1 3 ∷ jumpWord 1 ∷ haltWord ∷ [])) ≡ verdict 14 0 1
+  pub sizeThree : threeMoved (runWord 0 2 3) 3 ≡ anyWord
+  pub sizeThreeMisses : threeOnCheck (runWord 0 2 3) (runWord 0 2 3) ≡ verdict 14 0 1
+  -- 02, card 2: '01's case "Size 3: + 3 is Any" stays for Run and From, and gains its In partner'
+  pub fromSizeThree : threeMoved (fromWord 0 2 3) 3 ≡ anyWord
+  pub fromSizeThreeMisses : threeOnCheck (fromWord 0 2 3) (runWord 0 2 3) ≡ verdict 14 0 1
+  pub inSizeThree : threeMoved (inWord 0 2 3) 3 ≡ fromWord 0 2 3
+  pub inSizeThreeMeets : threeOnCheck (inWord 0 2 3) (fromWord 0 2 3) ≡ verdict 0 0 0
+  -- it is From and not In
+  pub inSizeThreeMisses : threeOnCheck (inWord 0 2 3) (inWord 0 2 3) ≡ verdict 14 0 1
+  -- by one size alone, and not back
+  pub inSizeThreeTwice : threeMoved (inWord 0 2 3) 6 ≡ anyWord
+  pub inSizeThreeBack : threeMoved (inWord 0 2 3) 65533 ≡ anyWord
+  -- 'before the older rule', which is asked of every other c
+  pub inSizeTwo : movedWord (tablesOf plotTypes plotTags) (inWord 0 2 3) 2 ≡ fromWord 0 2 3
+  pub inSizeTwoTwice : movedWord (tablesOf plotTypes plotTags) (inWord 0 2 3) 4 ≡ runWord 0 2 3
+  -- 'no routine can walk a run of them': this one does, and stores into each
+  pub threeWalked : check threeTypes [] (codeOf threeWalkBlocks threeWalk) ≡ verdict 0 0 0
   pub zeroLessOne : effect (move 0 1 65535) (0 ∷ 0 ∷ []) ≡ put 0 4294967295
   pub wrappedProduct : effect (multiply 0 1 1) (0 ∷ 65536 ∷ []) ≡ put 0 0
   pub halfOfSeven : effect (divide 0 1 2) (0 ∷ 7 ∷ []) ≡ put 0 3

@@ -7,6 +7,7 @@ pub mod Allocation
 pub mod Machine
 pub mod CodeIndex
 pub mod Uses
+pub mod Walk
 pub mod Rules
 pub mod ReadingRules
 pub mod Reading

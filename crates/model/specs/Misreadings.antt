@@ -1,13 +1,15 @@
--- What wrong readings of 01 would get wrong: routines, memories and runs with their right answers, under one statement; it is
+-- What wrong readings of 01 and 02 would get wrong: routines, memories and runs with their right answers, under one statement; it is
 -- proved in proofs/Answers.antt.
 use mathlib.Core.Path.{_≡_}
 use mathlib.Core.List.{List, [], _∷_, _++_}
 use Prim.Native.Nat.{ℕ, _^_}
 use Rattle.model.specs.Table.{codeOf}
 use Rattle.model.specs.Machine.{ifLess, next, enter, Run, run, ready}
+use Rattle.model.specs.Check.{check}
 use Rattle.model.specs.MemoryCheck.{memoryCheck}
-use Rattle.model.specs.Cases.{typeWord, constantByte, refWord, taggedWord, sameWord, runWord, inWord, instruction, haltWord, moveWord, loadWord}
-use Rattle.model.specs.Cases.{storeWord, jumpWord, ifEqualWord, ifLessWord, row, verdict, plotTypes, plotTags, plotCheck}
+use Rattle.model.specs.Cases.{typeWord, constantByte, refWord, taggedWord, sameWord, runWord, fromWord, inWord, instruction, haltWord}
+use Rattle.model.specs.Cases.{constantWord, moveWord, loadWord, storeWord, jumpWord, ifEqualWord, ifLessWord, row, verdict, plotTypes}
+use Rattle.model.specs.Cases.{plotTags, plotCheck}
 
 -- Blocks 1 to 3 of most cases: r3 is taken for a reference to a raw record where it is Tagged of tag 0 and not 0, and its second
 -- field is loaded, which a corrected record does not have.
@@ -21,12 +23,6 @@ tailCode = haltWord ∷ ifEqualWord 3 0 1 ∷ loadWord 7 3 1 ∷ haltWord ∷ []
 abbrev pub plotBlocks : ℕ → ℕ → List ℕ
 plotBlocks n c = row n 0 (refWord 2) 0 0 (refWord 1) (sameWord (constantByte c)) (refWord 2) 0 ++ tailBlocks
 
-abbrev pub fromWord : ℕ → ℕ → ℕ → ℕ
-fromWord t d e = typeWord 7 t d e
-
-abbrev pub constantWord : ℕ → ℕ → ℕ
-constantWord a c = instruction 1 a 0 c
-
 abbrev pub copyWord : ℕ → ℕ → ℕ
 copyWord a b = instruction 2 a b 0
 
@@ -34,9 +30,13 @@ copyWord a b = instruction 2 a b 0
 abbrev pub pairTypes : List ℕ
 pairTypes = row 2 0 0 0 0 0 0 0 0
 
--- type 0 of one word; type 1 with two bounds and a pointer into the run of type 0 between them
-abbrev pub spanTypes : List ℕ
-spanTypes = row 1 0 0 0 0 0 0 0 0 ++ row 3 0 0 (runWord 0 0 1) 0 0 0 0 0
+-- type 0 of one word; type 1 with two bounds and a pointer of the run of type 0 between them
+abbrev pub spanTypes : ℕ → List ℕ
+spanTypes pointer = row 1 0 0 0 0 0 0 0 0 ++ row 3 0 0 pointer 0 0 0 0 0
+
+-- r7 is r4 moved by one size; the record behind r1 gets the bounds r5 and r6, then r7, then r4
+abbrev pub twoPointers : List ℕ
+twoPointers = moveWord 7 4 1 ∷ storeWord 5 1 0 ∷ storeWord 6 1 1 ∷ storeWord 7 1 2 ∷ storeWord 4 1 2 ∷ haltWord ∷ []
 
 -- a block of r0 to r7 free, of any length
 abbrev pub freeBlock : ℕ → List ℕ
@@ -70,6 +70,9 @@ pub record Misreadings : Type 0 where
   -- a move keeps From
   pub movedFrom : plotCheck (row 2 0 (fromWord 0 2 3) 0 0 0 0 0 0 ++ row 1 0 (fromWord 0 2 3) 0 0 0 0 0 0)
       (moveWord 1 1 2 ∷ jumpWord 1 ∷ haltWord ∷ []) ≡ verdict 14 0 1
+  -- opcode 7 on In by one size goes by the older rule where that one applies: the record would then stay open at the store of r7 and close at
+  -- that of r4; it closes at the first, and the second opens it again
+  pub closesEarlier : check (spanTypes (fromWord 0 0 1)) [] (codeOf (row 6 0 (refWord 1) 0 0 (inWord 0 5 6) 0 0 0) twoPointers) ≡ verdict 13 0 5
   -- Maybe becomes Ref after a test against a constant that is not 0; the untaken edge is not asked
   pub otherConstant : plotCheck (row 1 0 (typeWord 2 1 0 0) 0 0 0 0 0 0 ++ row 2 0 (refWord 1) 0 0 0 0 0 0 ++ freeBlock 1)
       (ifEqualWord 1 5 2 ∷ loadWord 2 1 0 ∷ haltWord ∷ haltWord ∷ []) ≡ verdict 15 0 0
@@ -87,7 +90,7 @@ pub record Misreadings : Type 0 where
   -- a tag beyond the table allows every pointer
   pub beyondTable : memoryCheck plotTypes plotTags (1 ∷ 2 ∷ []) (0 ∷ 5 ∷ 9 ∷ []) ≡ verdict 20 0 1
   -- a run with a gap
-  pub gap : memoryCheck spanTypes [] (1 ∷ 0 ∷ 3 ∷ 0 ∷ 4 ∷ 1 ∷ []) (0 ∷ 0 ∷ 0 ∷ 0 ∷ 1 ∷ 4 ∷ 1 ∷ []) ≡ verdict 20 2 2
+  pub gap : memoryCheck (spanTypes (runWord 0 0 1)) [] (1 ∷ 0 ∷ 3 ∷ 0 ∷ 4 ∷ 1 ∷ []) (0 ∷ 0 ∷ 0 ∷ 0 ∷ 1 ∷ 4 ∷ 1 ∷ []) ≡ verdict 20 2 2
   -- a run pauses inside a block
   pub pauseInside : run (codeOf (freeBlock 3 ++ freeBlock 1) (storeWord 1 2 0 ∷ storeWord 1 2 1 ∷ jumpWord 1 ∷ haltWord ∷ []))
       (7 ∷ 8 ∷ []) (ready 0 (r1 5)) 1 ≡ ended 40 1 3 1 (r1 5) (5 ∷ 5 ∷ []) 3

@@ -4,10 +4,11 @@ use mathlib.Core.List.{List, [], _∷_, _++_}
 use Prim.Native.Nat.{ℕ, zero, suc, _+_, _*_, _/_, _%_}
 use lib.Dec.{ltb, leb, eqb}
 use lib.ListN.{length, getD, set, replicate}
+use lib.IntN.{ℤ, pos, negsuc}
 use Rattle.model.specs.declared.Reference.{Reference}
 use Rattle.model.specs.declared.Reference.the-variants.{To, Nothing}
 use Rattle.model.specs.Question.{_and_, _or_, pick, every}
-use Rattle.model.specs.Word.{withKind}
+use Rattle.model.specs.Word.{withKind, signed}
 use Rattle.model.specs.Types.{Dep, name, con, Ty, any, ref, maybe, tagged, present, same, span, typeOf, rename}
 use Rattle.model.specs.Table.{Tables}
 use Rattle.model.specs.Machine.{End, halt, jump, ifEqual, ifLess}
@@ -267,19 +268,33 @@ fresh st g a word frame constant =
 abbrev pub powerOfTwo : ℕ → Bool
 powerOfTwo z = eqb z 1 or eqb z 2 or eqb z 4 or eqb z 8
 
+-- a question about the rank and the record type of a Run, From or In; no of every other type
+unfoldable pub onSpan : (ℕ → ℕ → Bool) → Ty → Bool
+onSpan f any = false
+onSpan f (ref t) = false
+onSpan f (maybe t) = false
+onSpan f (tagged d) = false
+onSpan f (present d) = false
+onSpan f (same d) = false
+onSpan f (span k t d e) = f k t
+
 -- 01: 'opcode 7 on Run, From or In gives Run with the same T, d, e if the size is 1, 2, 4 or 8 and divides c'; for these sizes c
 -- as it stands is a multiple exactly where the signed c is
 unfoldable pub moves : Tables → Ty → ℕ → Bool
-moves 𝒯 any c = false
-moves 𝒯 (ref t) c = false
-moves 𝒯 (maybe t) c = false
-moves 𝒯 (tagged d) c = false
-moves 𝒯 (present d) c = false
-moves 𝒯 (same d) c = false
-moves 𝒯 (span k t d e) c = powerOfTwo (𝒯 .size t) and eqb (c % 𝒯 .size t) 0
+moves 𝒯 ty c = onSpan (λ k t. powerOfTwo (𝒯 .size t) and eqb (c % 𝒯 .size t) 0) ty
 
+-- a signed number is one size
+abbrev pub isSize : ℕ → ℤ → Bool
+isSize z (pos n) = eqb n z
+isSize z (negsuc n) = false
+
+-- 02, card 2: 'Opcode 7 on In with c equal to the size now gives From'
+unfoldable pub walks : Tables → Ty → ℕ → Bool
+walks 𝒯 ty c = onSpan (λ k t. eqb k 2 and isSize (𝒯 .size t) (signed c)) ty
+
+-- 02, card 2: 'before the older rule'
 unfoldable pub movedWord : Tables → ℕ → ℕ → ℕ
-movedWord 𝒯 w c = pick (moves 𝒯 (typeOf w) c) (withKind 6 w) 0
+movedWord 𝒯 w c = pick (walks 𝒯 (typeOf w) c) (withKind 7 w) (pick (moves 𝒯 (typeOf w) c) (withKind 6 w) 0)
 
 -- ---- loads and stores
 

@@ -9,10 +9,10 @@ use Prim.Native.Nat.{ℕ, zero, suc, _+_, _*_, _/_, _%_, _≤_, _<_}
 use lib.Dec.{eqb}
 use lib.ListN.{getD, set}
 use lib.IntN.{ℤ, pos, negsuc}
-use Rattle.model.specs.Question.{pick, Question, q7, q8, q9, q10, q11, q12, q13, q14, q15, Refusal, refusal, ok, refused}
+use Rattle.model.specs.Question.{pick, Question, q7, q8, q9, q10, q11, q12, q13, q14, q15, Refusal, refusal}
 use Rattle.model.specs.Word.{signed}
 use Rattle.model.specs.Types.{Dep, name, Ty, any, ref, maybe, tagged, present, span, typeOf, rename}
-use Rattle.model.specs.Table.{Tables, tablesOf, fieldOf, Code, Routine, routineOf, tablesAsk}
+use Rattle.model.specs.Table.{Tables, fieldOf, Routine}
 use Rattle.model.specs.Machine.{Plain, constant, copy, add, subtract, multiply, divide, move, load, store, End, halt, jump, ifEqual, ifLess}
 use Rattle.model.specs.Machine.{Instruction, plain, end, malformed, instructionAt, targetsExist}
 use Rattle.model.specs.Rules.{Known, Equal, Fits}
@@ -116,6 +116,19 @@ module _ (𝒯 : Tables) where
     pub power : PowerOfTwo (𝒯 .size t)
     pub divided : Divides (𝒯 .size t) (signed c)
 
+  -- 02, card 2: 'on In with c equal to the size', c signed
+  pub record Walks (ty : Ty) (c t : ℕ) (d e : Dep) : Type 0 where
+    pub is : ty ≡ span 2 t d e
+    pub one-size : signed c ≡ pos (𝒯 .size t)
+
+  -- 'the older rule' does not apply
+  abbrev pub NoMove : Ty → ℕ → Type 0
+  NoMove ty c = (t : ℕ) (d e : Dep) → Moves ty c t d e → ⊥
+
+  -- the one that comes 'before the older rule' does not
+  abbrev pub NoWalk : Ty → ℕ → Type 0
+  NoWalk ty c = (t : ℕ) (d e : Dep) → Walks ty c t d e → ⊥
+
   -- Q10, Q11 and Q12. 01: 'A base holds a reference if it fits some Ref T'; 'c below the size'; 'No record open, or base the very value
   -- that opened it', of a load or store at offset c of the record of type t behind v
   pub record MayAccess (s : BlockState) (v c t : ℕ) : Type 0 where
@@ -156,10 +169,13 @@ module _ (𝒯 : Tables) where
     subtracts : {a b c : ℕ} → Reads j s (subtract a b c) (giving j s a any none)
     multiplies : {a b c : ℕ} → Reads j s (multiply a b c) (giving j s a any none)
     divides : {a b c : ℕ} → Reads j s (divide a b c) (giving j s a any none)
-    moves-any : {a b c : ℕ} → ((t : ℕ) (d e : Dep) → Moves (s .known .type (holds s b)) c t d e → ⊥)
+    moves-any : {a b c : ℕ} → NoMove (s .known .type (holds s b)) c → NoWalk (s .known .type (holds s b)) c
         → Reads j s (move a b c) (giving j s a any none)
+    -- 02, card 2: 'Opcode 7 on In with c equal to the size now gives From, before the older rule'
+    moves-from : {a b c t : ℕ} {d e : Dep} → Walks (s .known .type (holds s b)) c t d e
+        → Reads j s (move a b c) (giving j s a (span 1 t d e) none)
     -- 01: 'except: opcode 7 on Run, From or In gives Run with the same T, d, e if the size is 1, 2, 4 or 8 and divides c'
-    moves-run : {a b c t : ℕ} {d e : Dep} → Moves (s .known .type (holds s b)) c t d e
+    moves-run : {a b c t : ℕ} {d e : Dep} → Moves (s .known .type (holds s b)) c t d e → NoWalk (s .known .type (holds s b)) c
         → Reads j s (move a b c) (giving j s a (span 0 t d e) none)
     -- 01: 'A load gives the field's value'
     loads : {a b c t : ℕ} {fields : List ℕ} {s' : BlockState} → MayAccess s (holds s b) c t → Sees j (holds s b) t s fields s'

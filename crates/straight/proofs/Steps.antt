@@ -1,21 +1,21 @@
 -- Laws of one instruction before a block's end: new values, opcode 7, and the instructions beside loads and stores.
-use mathlib.Core.Path.{_≡_, _∙_}
+use mathlib.Core.Path.{_≡_, refl, _∙_}
 use mathlib.Core.Bool.{true, false}
 use mathlib.Core.List.{List}
-use Prim.Native.Nat.{ℕ, suc, _+_, _-_, _*_, _%_, _<_, _≤_}
+use Prim.Native.Nat.{ℕ, suc, _+_, _-_, _*_, _%_, _^_, _<_, _≤_}
 use native.Mathlib.Numerals.{add-one}
 use native.Mathlib.Omega.{arith}
 use lib.Dec.{eqb}
 use lib.ListN.{getD, set}
-use borrow.Author.Tests.{ne-eqb}
+use borrow.Author.Tests.{ne-eqb, lt-ltb, le-ltb}
 use Rattle.model.specs.Question.{_and_, _or_, Question, Refusal}
-use Rattle.model.specs.Word.{kindOf, recordOf, opcodeOf, withKind}
+use Rattle.model.specs.Word.{kindOf, recordOf, opcodeOf, withKind, signed}
 use Rattle.model.specs.Types.{typeOf}
 use Rattle.model.specs.Table.{Tables, tablesOf, headOf}
 use Rattle.model.specs.Machine.{constant, copy, move}
-use Rattle.model.specs.Reading.{birthplace, Reading, laidAt, born, putRegister, fresh, moves, movedWord, powerOfTwo}
+use Rattle.model.specs.Reading.{birthplace, Reading, laidAt, born, putRegister, fresh, onSpan, moves, isSize, walks, movedWord, powerOfTwo}
 use Rattle.model.specs.Check.{valueIn, readPlain}
-use Rattle.model.proofs.Logic.{byLess}
+use Rattle.model.proofs.Logic.{byEqual, byLess}
 use Rattle.instruction.specs.Form.{plainOf}
 use Rattle.known.specs.Numbers.{frameOf}
 use Rattle.known.proofs.Numbers.{frames-set, byKind}
@@ -47,28 +47,60 @@ module _ (n c : ℕ) where
   unfolding _and_ _or_
   divides-other n1 n2 n4 n8 = rw (ne-eqb n 1 n1, ne-eqb n 2 n2, ne-eqb n 4 n4, ne-eqb n 8 n8)
 
-module _ (types tags : List ℕ) (w c : ℕ) where
-  type-is-span : (k : ℕ) → kindOf w ≡ k + 6
-      → moves (tablesOf types tags) (typeOf w) c ≡ powerOfTwo (headOf types (recordOf w)) and eqb (c % headOf types (recordOf w)) 0
-  unfolding moves typeOf tablesOf
-  type-is-span k e = let z : kindOf w ≡ suc (suc (suc (suc (suc (suc k))))) = omega arith in rw z
+module _ (kind size c : ℕ) where
+  pub walk-is : kind ≡ 8 → size ≤ 8 → eqb c size ≡ eqb kind 8 and isSize size (signed c)
+  unfolding _and_
+  walk-is e h =
+      byLess c (2 ^ 15)
+      (λ l. rw (e, lt-ltb c (2 ^ 15) l) refl)
+      (λ l. rw (e, le-ltb c (2 ^ 15) l, ne-eqb c size (λ q. omega arith)) refl)
 
-  pub moved-other : kindOf w < 6 → 0 ≡ movedWord (tablesOf types tags) w c
-  unfolding movedWord moves typeOf
+  pub walk-not : (kind ≡ 8 → ⊥) → false ≡ eqb kind 8 and isSize size (signed c)
+  unfolding _and_
+  walk-not n = rw (ne-eqb kind 8 n) refl
+
+-- the kinds Run, From and In are the spans of rank 0, 1 and 2
+in-kind : (k : ℕ) → 6 ≤ k → eqb (k - 6) 2 ≡ eqb k 8
+in-kind k h = byEqual k 8 (λ e. rw e refl) (λ d. rw (ne-eqb k 8 d) (ne-eqb (k - 6) 2 (λ q. d (omega arith))))
+
+module _ (types tags : List ℕ) (w c : ℕ) where
+  abbrev 𝒯 : Tables
+  𝒯 = tablesOf types tags
+
+  pub moved-other : kindOf w < 6 → 0 ≡ movedWord 𝒯 w c
+  unfolding movedWord moves walks onSpan typeOf
   moved-other h =
       byKind (kindOf w) (λ e. rw e) (λ e. rw e) (λ e. rw e) (λ e. rw e) (λ e. rw e) (λ e. rw e) (λ k e. absurd (omega arith))
 
-  module _ (h : 6 ≤ kindOf w) (t n : ℕ) (et : t ≡ recordOf w) (en : n ≡ headOf types t) where
-    spans : moves (tablesOf types tags) (typeOf w) c ≡ powerOfTwo n and eqb (c % n) 0
-    spans = type-is-span (kindOf w - 6) (omega arith) ∙ rw (en, et)
+  module _ (rank : ℕ) (e : kindOf w ≡ suc (suc (suc (suc (suc (suc rank)))))) where
+    span-moves : moves 𝒯 (typeOf w) c ≡ powerOfTwo (headOf types (recordOf w)) and eqb (c % headOf types (recordOf w)) 0
+    unfolding moves onSpan typeOf tablesOf
+    span-moves = rw e refl
 
-    pub moved-not : powerOfTwo n and eqb (c % n) 0 ≡ false → 0 ≡ movedWord (tablesOf types tags) w c
-    unfolding movedWord
-    moved-not q = rw (spans, q)
+    span-walks : walks 𝒯 (typeOf w) c ≡ eqb rank 2 and isSize (headOf types (recordOf w)) (signed c)
+    unfolding walks onSpan typeOf tablesOf
+    span-walks = rw e refl
 
-    pub moved-on : powerOfTwo n and eqb (c % n) 0 ≡ true → withKind 6 w ≡ movedWord (tablesOf types tags) w c
+  -- of a word of kind k, one of the three, and record type t of n words
+  module _ (k t n : ℕ) (h : 6 ≤ k) (ek : k ≡ kindOf w) (et : t ≡ recordOf w) (en : n ≡ headOf types t) where
+    moves-is : moves 𝒯 (typeOf w) c ≡ powerOfTwo n and eqb (c % n) 0
+    moves-is = span-moves (k - 6) (omega arith) ∙ rw (en, et) refl
+
+    walks-is : walks 𝒯 (typeOf w) c ≡ eqb k 8 and isSize n (signed c)
+    walks-is = span-walks (k - 6) (omega arith) ∙ rw (in-kind k h, en, et) refl
+
+    pub moved-from : eqb k 8 and isSize n (signed c) ≡ true → withKind 7 w ≡ movedWord 𝒯 w c
     unfolding movedWord
-    moved-on q = rw (spans, q)
+    moved-from o = rw (walks-is, o) refl
+
+    module _ (o : eqb k 8 and isSize n (signed c) ≡ false) where
+      pub moved-not : powerOfTwo n and eqb (c % n) 0 ≡ false → 0 ≡ movedWord 𝒯 w c
+      unfolding movedWord
+      moved-not q = rw (walks-is, o, moves-is, q) refl
+
+      pub moved-run : powerOfTwo n and eqb (c % n) 0 ≡ true → withKind 6 w ≡ movedWord 𝒯 w c
+      unfolding movedWord
+      moved-run q = rw (walks-is, o, moves-is, q) refl
 
 -- ---- the parts of a word
 

@@ -1,14 +1,15 @@
 // How a block is read up to its last instruction: Q7 and Q8, new values, copies and moves. Loads and stores are `access`.
 ghost use mathlib.Core.Path.{_≡_};
 ghost use mathlib.Core.List.{List};
-ghost use Prim.Native.Nat.{ℕ, _*_, _%_, _<_};
-ghost use lib.ListN.{length, set};
+ghost use Prim.Native.Nat.{ℕ, _*_, _%_, _≤_, _<_};
+ghost use lib.ListN.{set};
 ghost use lib.Dec.{eqb};
 ghost use mathlib.Core.Bool.{false};
 ghost use Rattle.model.specs.Question.{_and_};
+ghost use Rattle.model.specs.Word.{signed};
 ghost use Rattle.model.specs.Table.{tablesOf, Routine};
 ghost use Rattle.model.specs.Machine.{decode};
-ghost use Rattle.model.specs.Reading.{powerOfTwo, movedWord};
+ghost use Rattle.model.specs.Reading.{powerOfTwo, isSize, movedWord};
 ghost use Rattle.model.specs.Check.{readPlain, readInstruction};
 ghost use Rattle.instruction.specs.Rows.{opcodeRows};
 ghost use Rattle.instruction.specs.Form.{plainOf, Inside};
@@ -65,15 +66,31 @@ fn divides(n: u32, c: u32) -> bool
     false
 }
 
+// Whether opcode 7 moves an In pointer by one size. A size is at most 8, so c as it stands is the size exactly where the signed c is.
+fn walks(kind: u32, size: u32, c: u32) -> bool
+    requires { ⌜ size ≤ 8 ⌝ }
+    ensures { λ r. ⌜ r ≡ (eqb kind 8 and isSize size (signed c)) ⌝ }
+{
+    if kind != word::IN {
+        return false;
+    }
+    c == size
+}
+
 // The type word after opcode 7 on a value of type word w.
 fn moved_word(types: &[u32], w: u32, c: u32) -> u32
-    requires { ⌜ length (now types) % 9 ≡ 0 ⌝ }
+    requires { ⌜ Sizes (now types) ⌝ }
     ensures { λ r. ⌜ ((tags : List ℕ) → r ≡ movedWord (tablesOf (now (types .entry)) tags) w c) ⌝ }
 {
-    if word::kind(w) < word::RUN {
+    let kind = word::kind(w);
+    if kind < word::RUN {
         return 0;
     }
-    if !divides(access::size(types, word::record_type(w)), c) {
+    let size = access::size(types, word::record_type(w));
+    if walks(kind, size, c) {
+        return word::with_kind(word::FROM, w);
+    }
+    if !divides(size, c) {
         return 0;
     }
     word::with_kind(word::RUN, w)

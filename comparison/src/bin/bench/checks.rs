@@ -28,9 +28,14 @@ pub fn rows() -> Vec<Row> {
     let loads = body(|i| ins(8, 2 + i % 5, i & 1, i % 8));
     let stores = body(|i| ins(9, 2, 1, i % 8));
     let back = body(|i| ins(8 + i % 2, 2, 0, i / 2 % 8));
+    // in turn In of three words by one size, which is From, and In of four words by two, which asks both rules and is Run
+    let threes_and_fours = [nine(3, &[]), nine(4, &[])];
+    let bounded = [ty(IN, 0, constant(1), constant(7)), ty(IN, 1, constant(7), constant(15))];
+    let steps = body(|i| ins(7, 2 + i % 5, i & 1, if i & 1 == 0 { 3 } else { 8 }));
     let eight = nine(8, &[ty(IN, 0, constant(1), constant(9)); 8]);
     let mut rows = vec![
         straight("check, arithmetic", &types, &[0, 1], &annotation, &arithmetic),
+        straight("check, steps of a run", &threes_and_fours, &[], &bounded, &steps),
         straight("check, loads", &types, &[0, 1], &annotation, &loads),
         straight("check, stores to eight Any fields", &types, &[0, 1], &annotation, &stores),
         straight("check, loads and stores, eight mixed fields", &types, &[0, 1], &annotation, &back),
