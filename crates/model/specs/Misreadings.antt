@@ -70,8 +70,8 @@ pub record Misreadings : Type 0 where
   -- a move keeps From
   pub movedFrom : plotCheck (row 2 0 (fromWord 0 2 3) 0 0 0 0 0 0 ++ row 1 0 (fromWord 0 2 3) 0 0 0 0 0 0)
       (moveWord 1 1 2 ∷ jumpWord 1 ∷ haltWord ∷ []) ≡ verdict 14 0 1
-  -- opcode 7 on In by one size goes by the older rule where that one applies: the record would then stay open at the store of r7 and close at
-  -- that of r4; it closes at the first, and the second opens it again
+  -- opcode 7 on In by one size goes by the older rule where that one applies: the record would stay open at the store of r7, and close at that
+  -- of r4. But r7 is From: its store closes the record, and the store of r4 opens it again.
   pub closesEarlier : check (spanTypes (fromWord 0 0 1)) [] (codeOf (row 6 0 (refWord 1) 0 0 (inWord 0 5 6) 0 0 0) twoPointers) ≡ verdict 13 0 5
   -- Maybe becomes Ref after a test against a constant that is not 0; the untaken edge is not asked
   pub otherConstant : plotCheck (row 1 0 (typeWord 2 1 0 0) 0 0 0 0 0 0 ++ row 2 0 (refWord 1) 0 0 0 0 0 0 ++ freeBlock 1)

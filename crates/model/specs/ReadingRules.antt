@@ -1,5 +1,5 @@
--- 'How a block is read' of 01, by rules: values, what is known of them, the registers, the fields seen, the open record. One rule
--- for each sentence, in the document's order. Nothing of how the reading is represented: the tests of Check decide these rules.
+-- 'How a block is read' of 01, with card 2 of 02, by rules: values, what is known of them, the registers, the fields seen, the open record.
+-- One rule for each sentence, in 01's order. Nothing of how the reading is represented: the tests of Check decide these rules.
 use mathlib.Core.Path.{_≡_}
 use mathlib.Core.Logic.{_⊎_}
 use mathlib.Core.Bool.{true, false}
@@ -121,11 +121,11 @@ module _ (𝒯 : Tables) where
     pub is : ty ≡ span 2 t d e
     pub one-size : signed c ≡ pos (𝒯 .size t)
 
-  -- 'the older rule' does not apply
+  -- 02, card 2: 'the older rule', which is Moves, does not apply
   abbrev pub NoMove : Ty → ℕ → Type 0
   NoMove ty c = (t : ℕ) (d e : Dep) → Moves ty c t d e → ⊥
 
-  -- the one that comes 'before the older rule' does not
+  -- 02, card 2: the rule that comes 'before the older rule', which is Walks, does not apply
   abbrev pub NoWalk : Ty → ℕ → Type 0
   NoWalk ty c = (t : ℕ) (d e : Dep) → Walks ty c t d e → ⊥
 

@@ -28,5 +28,5 @@ pub record Walk : Type 1 where
   pub at-most-end : AtMostEnd
   -- in the meanings of 01: In gives From
   pub in-gives-from : OneSizeOn 2 1
-  -- From may lie past e, so that its sum may wrap: it need not even give Run
+  -- From may lie past e, so that its sum may wrap: with some sizes, six for one, it need not even give Run
   pub from-need-not-give-run : OneSizeOn 1 0 → ⊥
