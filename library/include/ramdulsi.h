@@ -58,7 +58,7 @@ extern "C" {
 #endif
 
 /* The version of this header, and of the archive that it comes with. */
-#define RAMDULSI_VERSION "0.3.0"
+#define RAMDULSI_VERSION "0.4.0"
 #define RAMDULSI_VERSION_MAJOR 0
 #define RAMDULSI_VERSION_MINOR 3
 #define RAMDULSI_VERSION_PATCH 0

@@ -46,7 +46,7 @@ fn block_end(r: Routine, reading: &mut Reading, b: usize, index: usize) -> Asked
         return no(13, b, index);
     }
     let (taken, untaken) = match p.op {
-        10 => (reading.meets(r.annotation(p.c as usize), None), true),
+        10 => (reading.meets(r.annotation(p.c as usize)), true),
         11 => {
             let (k, t) = (p.c >> 8, (p.c & 255) as usize);
             (reading.meets_equal(r.annotation(t), p.a, k), reading.meets_not_equal(r.annotation(b + 1), p.a, k))

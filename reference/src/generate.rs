@@ -31,6 +31,12 @@ impl Random {
         from[self.below(from.len())]
     }
 
+    pub fn shuffle<T>(&mut self, all: &mut [T]) {
+        for i in (1..all.len()).rev() {
+            all.swap(i, self.below(i + 1));
+        }
+    }
+
     /// A word, often a small or a telling one.
     pub fn word(&mut self) -> u32 {
         match self.below(4) {
@@ -76,13 +82,47 @@ fn any_type(r: &mut Random, count: usize, n: usize) -> u32 {
     }
 }
 
+/// Two or more of n places, in a random order.
+fn some_places(r: &mut Random, n: usize) -> Vec<usize> {
+    let mut places: Vec<usize> = (0..n).collect();
+    r.shuffle(&mut places);
+    places.truncate(2 + r.below(n - 1));
+    places
+}
+
+/// Makes the words at some places of a row a chain: each is Same of the next, and the last is Same of the end, if there is one.
+fn chain(row: &mut [u32], places: &[usize], end: Option<usize>) {
+    let next = places[1..].iter().copied().chain(end);
+    for (&place, d) in places.iter().zip(next) {
+        row[place] = type_word(SAME, 0, d, 0);
+    }
+}
+
+/// The eight type words of a record of n words; now and then some are a chain, which may end in a constant or a circle.
+fn fields(r: &mut Random, count: usize, n: usize) -> Vec<u32> {
+    let mut row: Vec<u32> = (0..8).map(|f| if f < n { any_type(r, count, n) } else { 0 }).collect();
+    if n > 1 && r.chance(5) {
+        let places = some_places(r, n);
+        let end = match r.below(4) {
+            0 => Some(8 + r.below(4)),
+            1 => Some(r.pick(&places)),
+            _ => None,
+        };
+        if r.chance(2) {
+            row.fill(0);
+        }
+        chain(&mut row, &places, end);
+    }
+    row
+}
+
 fn types(r: &mut Random) -> (Vec<u32>, Vec<u32>) {
     let count = 1 + r.below(4);
     let mut rows = Vec::new();
     for _ in 0..count {
         let n = if r.chance(4) { 1 + r.below(8) } else { 1 + r.below(3) };
         rows.push(n as u32);
-        rows.extend((0..8).map(|f| if f < n { any_type(r, count, n) } else { 0 }));
+        rows.extend(fields(r, count, n));
     }
     let tags = (0..if r.chance(5) { 0 } else { 1 + r.below(4) }).map(|_| r.below(count) as u32).collect();
     (rows, tags)
@@ -113,20 +153,25 @@ fn ending(r: &mut Random, count: usize, last: bool) -> u32 {
 }
 
 /// A routine that goes through a run by the size of its records: a Run in block 0, From in block 1, In in block 3, where the step is made
-/// after instructions that leave place and bounds alone.
+/// after instructions that leave place and bounds alone. Place, start and end are registers in a row. Now and then the two after them are a
+/// chain to one of the bounds, and the test is of the first of these in its stead.
 fn walk(r: &mut Random, types: &[u32]) -> (Vec<u32>, Vec<u32>) {
     let t = r.below(types.len() / 9);
     let (size, place) = (types[t * 9], r.below(8));
-    let (start, end) = ((place + 1) % 8, (place + 2) % 8);
-    let shared: Vec<u32> = (0..8).map(|_| any_type(r, types.len() / 9, 8)).collect();
-    let body: Vec<u32> = (0..r.below(6)).map(|_| walk_step(r, [place, start, end], size)).collect();
+    let [start, end, known, link] = [1, 2, 3, 4].map(|i| (place + i) % 8);
+    let mut shared: Vec<u32> = (0..8).map(|_| any_type(r, types.len() / 9, 8)).collect();
+    let (kept, bound) = if r.chance(3) { (5, r.pick(&[start, end])) } else { (3, known) };
+    if kept == 5 {
+        chain(&mut shared, &[known, link], Some(bound));
+    }
+    let body: Vec<u32> = (0..r.below(6)).map(|_| walk_step(r, place, kept, size)).collect();
     let mut blocks = Vec::new();
     for (n, kind) in [(1, RUN), (1, FROM), (1, 0), (body.len() + 2, IN)] {
         blocks.push(n as u32);
         let at_place = if kind == 0 { 0 } else { type_word(kind, t, start, end) };
         blocks.extend((0..8).map(|i| if i == place { at_place } else { shared[i] }));
     }
-    let if_less = |b: usize, to: u32| 12 << 24 | (place as u32) << 20 | (b as u32) << 16 | to;
+    let if_less = |b: usize, to: u32| 12 << 24 | (place as u32) << 20 | (if b == bound { known } else { b } as u32) << 16 | to;
     let step = if r.chance(6) { size * r.below(4) as u32 } else { size };
     let mut code = vec![if_less(start, 2), if_less(end, 3), 0];
     code.extend(body);
@@ -134,20 +179,145 @@ fn walk(r: &mut Random, types: &[u32]) -> (Vec<u32>, Vec<u32>) {
     (blocks, code)
 }
 
-/// An instruction inside a walk: often a load or store of the record that the walk has come to.
-fn walk_step(r: &mut Random, [place, start, end]: [usize; 3], size: u32) -> u32 {
+/// An instruction inside a walk, which leaves some registers from its place on alone: often a load or store of the record that the walk has
+/// come to.
+fn walk_step(r: &mut Random, place: usize, kept: usize, size: u32) -> u32 {
     let w = plain(r);
     let (op, a) = (w >> 24, (w >> 20 & 7) as usize);
     let w = if op >= 8 && !r.chance(3) { w & 0xfff0_0000 | (place as u32) << 16 | r.below(size as usize) as u32 } else { w };
-    if op != 9 && [place, start, end].contains(&a) {
-        return w & 0xff0f_ffff | (((end + 1 + r.below(5)) % 8) as u32) << 20;
+    if op != 9 && (a + 8 - place) % 8 < kept {
+        return w & 0xff0f_ffff | (((place + kept + r.below(8 - kept)) % 8) as u32) << 20;
     }
     w
 }
 
-fn routine(r: &mut Random, types: &[u32]) -> (Vec<u32>, Vec<u32>) {
-    if r.chance(6) {
-        return walk(r, types);
+/// What all blocks of a routine know of their registers: some, the members, are equal to each other and perhaps to a constant.
+struct Shared {
+    members: Vec<usize>,
+    constants: Vec<usize>,
+    /// the registers' types; of the members only the first has one, and where no constant is known
+    types: Vec<u32>,
+}
+
+impl Shared {
+    /// The first register that is no member refers to a record, of a known tag or else with a field that is Same.
+    fn new(r: &mut Random, rows: &[u32], tags: &[u32]) -> Self {
+        let members = some_places(r, 8);
+        let constants = if r.chance(2) { vec![r.below(4)] } else { vec![] };
+        let mut types: Vec<u32> = (0..8).map(|_| any_type(r, rows.len() / 9, 8)).collect();
+        if r.chance(2) {
+            types[members[0]] = 0;
+        }
+        let tagged = constants.first().and_then(|&k| tags.get(k)).map(|&t| t as usize);
+        let same = |t: &usize| rows[t * 9 + 1..t * 9 + 9].iter().any(|&w| kind(w) == SAME);
+        let base = (0..8).find(|i| !members.contains(i));
+        if let (Some(base), Some(t)) = (base, tagged.or_else(|| (0..rows.len() / 9).find(same))) {
+            types[base] = type_word(REF, t, 0, 0);
+        }
+        Shared { members, constants, types }
+    }
+
+    /// The type word said otherwise: what is known equal to a member stands for it, and a reference to a record of a known tag is said by the
+    /// tag, or the other way round.
+    fn otherwise(&self, r: &mut Random, w: u32, tags: &[u32]) -> u32 {
+        let names: Vec<usize> = self.members.iter().copied().chain(self.constants.iter().map(|k| 8 + k)).collect();
+        let k = (!self.constants.is_empty()).then(|| r.pick(&self.constants));
+        let tagged = k.and_then(|k| tags.get(k)).map(|&t| t as usize).filter(|_| r.chance(2));
+        let name = r.pick(&names);
+        let mut other = |x: usize| if names.contains(&x) { r.pick(&names) } else { x };
+        let (d, e) = (other(first(w)), other(second(w)));
+        match (kind(w), tagged) {
+            (REF, Some(t)) if t == record(w) => type_word(PRESENT, 0, name, 0),
+            (MAYBE, Some(t)) if t == record(w) => type_word(TAGGED, 0, name, 0),
+            (PRESENT, Some(t)) if names.contains(&d) => type_word(REF, t, 0, 0),
+            (TAGGED, Some(t)) if names.contains(&d) => type_word(MAYBE, t, 0, 0),
+            (TAGGED | PRESENT | SAME, _) => type_word(kind(w), 0, d, 0),
+            (RUN | FROM | IN, _) => type_word(kind(w), record(w), d, e),
+            _ => w,
+        }
+    }
+
+    /// An annotation that says this in its own way. Its chain leads through the members to the first of them, and may end in a constant or a
+    /// circle.
+    fn annotation(&self, r: &mut Random, tags: &[u32]) -> Vec<u32> {
+        let mut row: Vec<u32> = self.types.iter().map(|&w| self.otherwise(r, w, tags)).collect();
+        let mut places = self.members.clone();
+        r.shuffle(&mut places[1..]);
+        places.reverse();
+        let end = if !self.constants.is_empty() {
+            Some(8 + r.pick(&self.constants))
+        } else if self.types[self.members[0]] == 0 && r.chance(2) {
+            Some(r.pick(&places))
+        } else {
+            None
+        };
+        chain(&mut row, &places, end);
+        row
+    }
+
+    /// An instruction that keeps this: it sets a register of which nothing is said, or a member to another.
+    fn step(&self, r: &mut Random) -> u32 {
+        let w = plain(r);
+        let a = (w >> 20 & 7) as usize;
+        if w >> 24 == 9 || self.types[a] == 0 && !self.members.contains(&a) {
+            return w;
+        }
+        2 << 24 | (r.pick(&self.members[1..]) as u32) << 20 | (r.pick(&self.members) as u32) << 16
+    }
+
+    /// Now and then stores of members to each field of a record, or loads of all members from fields that a chain leads through.
+    fn accesses(&self, r: &mut Random, rows: &[u32]) -> Vec<u32> {
+        let bases: Vec<usize> = (0..8).filter(|i| kind(self.types[*i]) == REF && !self.members.contains(i)).collect();
+        if bases.is_empty() || r.chance(2) {
+            return vec![];
+        }
+        let base = r.pick(&bases);
+        let row = &rows[record(self.types[base]) * 9..][..9];
+        let one = |op: u32, a: usize, c: usize| op << 24 | (a as u32) << 20 | (base as u32) << 16 | c as u32;
+        if self.constants.is_empty() && self.types[self.members[0]] == 0 && r.chance(2) {
+            let fields = trail(&row[1..], r.below(row[0] as usize));
+            return self.members.iter().map(|&a| one(8, a, r.pick(&fields))).collect();
+        }
+        (0..row[0] as usize).map(|c| one(9, r.pick(&self.members), c)).collect()
+    }
+}
+
+/// The fields that a chain of Same leads through from one on.
+fn trail(row: &[u32], mut field: usize) -> Vec<usize> {
+    let mut fields = Vec::new();
+    while field < 8 && !fields.contains(&field) {
+        fields.push(field);
+        field = if kind(row[field]) == SAME { first(row[field]) } else { field };
+    }
+    fields
+}
+
+/// A routine whose blocks know some registers equal through a chain of Same, each in its own way. Block 0 tests a member, and what the test
+/// tells is known in the last block, where no other edge leads to.
+fn chained(r: &mut Random, rows: &[u32], tags: &[u32]) -> (Vec<u32>, Vec<u32>) {
+    let mut shared = Shared::new(r, rows, tags);
+    let (tested, k) = (r.pick(&shared.members) as u32, r.below(4));
+    let last = 2 + r.below(3);
+    let (mut blocks, mut code) = (Vec::new(), Vec::new());
+    for b in 0..=last {
+        if b == last {
+            shared.constants.push(k);
+        }
+        let mut body: Vec<u32> = (0..r.below(5)).map(|_| shared.step(r)).collect();
+        body.extend(shared.accesses(r, rows));
+        blocks.push(body.len() as u32 + 1);
+        blocks.extend(shared.annotation(r, tags));
+        code.extend(body);
+        code.push(if b == 0 { 11 << 24 | tested << 20 | (k << 8 | last) as u32 } else { ending(r, last, b + 1 >= last) });
+    }
+    (blocks, code)
+}
+
+fn routine(r: &mut Random, types: &[u32], tags: &[u32]) -> (Vec<u32>, Vec<u32>) {
+    match r.below(12) {
+        0 | 1 => return walk(r, types),
+        2 => return chained(r, types, tags),
+        _ => (),
     }
     let type_count = types.len() / 9;
     let count = 1 + r.below(5);
@@ -304,7 +474,7 @@ fn registers(r: &mut Random, c: &mut Case) {
 pub fn case(r: &mut Random) -> Case {
     let mut c = Case::default();
     (c.types, c.tags) = types(r);
-    (c.blocks, c.code) = routine(r, &c.types);
+    (c.blocks, c.code) = routine(r, &c.types, &c.tags);
     c.budget = r.below(12) as u64;
     repair_routine(r, &mut c);
     memory(r, &mut c);
@@ -314,7 +484,7 @@ pub fn case(r: &mut Random) -> Case {
 
 /// Another routine over the same record types, tags and memory.
 pub fn another(r: &mut Random, first: &Case) -> Case {
-    let (blocks, code) = routine(r, &first.types);
+    let (blocks, code) = routine(r, &first.types, &first.tags);
     let mut c = Case { blocks, code, ..first.clone() };
     repair_routine(r, &mut c);
     registers(r, &mut c);

@@ -5,18 +5,18 @@ use crate::tables::*;
 /// A value's name. A block makes at most 256: eight at its entry, eight with each of the 31 instructions before its last.
 type Name = u8;
 
-/// A dependency of a type: a value, or a constant.
+/// What a type may depend on, and what may be known equal: a value, or a constant.
 #[derive(Clone, Copy, PartialEq, Eq)]
 enum Dep {
     Value(Name),
-    Constant(u8),
+    Constant(u16),
 }
 
 fn dep(x: usize, names: &[Name; 8]) -> Dep {
     if x < 8 {
         Dep::Value(names[x])
     } else {
-        Dep::Constant(x as u8 - 8)
+        Dep::Constant(x as u16 - 8)
     }
 }
 
@@ -25,8 +25,8 @@ struct Value {
     /// its type word, whose names are eight values made together, this the first
     word: u32,
     siblings: Name,
-    /// from opcode 1 or Same with a constant
-    constant: Option<u16>,
+    /// what stands for all that it is known equal to: their constant if they have one, else one of them
+    class: Dep,
 }
 
 impl Value {
@@ -34,7 +34,7 @@ impl Value {
         if x < 8 {
             Dep::Value(self.siblings.wrapping_add(x as Name))
         } else {
-            Dep::Constant(x as u8 - 8)
+            Dep::Constant(x as u16 - 8)
         }
     }
 
@@ -47,10 +47,11 @@ impl Value {
     }
 }
 
-const UNKNOWN: Value = Value { word: 0, siblings: 0, constant: None };
+/// A place that no value has taken yet.
+const UNTAKEN: Value = Value { word: 0, siblings: 0, class: Dep::Value(0) };
 
-/// What a taken opcode 11 adds: a value and one more constant of it.
-type Fact = Option<(Name, u32)>;
+/// What a taken opcode 11 adds: what stood for ra, and the constant that ra is known to be.
+type Fact = Option<(Dep, Dep)>;
 
 pub struct Open {
     base: Name,
@@ -74,7 +75,7 @@ fn eight(first: Name) -> [Name; 8] {
 
 impl<'a> Reading<'a> {
     pub fn new(types: Types<'a>) -> Self {
-        Reading { types, values: [UNKNOWN; 256], made: 0, registers: [0; 8], views: Vec::with_capacity(31), open: None }
+        Reading { types, values: [UNTAKEN; 256], made: 0, registers: [0; 8], views: Vec::with_capacity(31), open: None }
     }
 
     /// At entry each register holds its own value, typed by the annotation.
@@ -88,12 +89,27 @@ impl<'a> Reading<'a> {
     /// Eight values typed by a row, each other's siblings; gives the first.
     fn born(&mut self, row: &[u32]) -> Name {
         let siblings = self.made as Name;
-        for (value, &word) in self.values[self.made..].iter_mut().zip(row) {
-            let constant = (kind(word) == SAME && first(word) >= 8).then(|| first(word) as u16 - 8);
-            *value = Value { word, siblings, constant };
+        for (i, &word) in row.iter().enumerate() {
+            self.values[self.made + i] = Value { word, siblings, class: Dep::Value(siblings.wrapping_add(i as Name)) };
+        }
+        for (i, &word) in row.iter().enumerate() {
+            if kind(word) == SAME {
+                self.join(siblings.wrapping_add(i as Name));
+            }
         }
         self.made += 8;
         siblings
+    }
+
+    /// A value of type Same is known equal to its dependency, and so are all that it stands for so far.
+    fn join(&mut self, v: Name) {
+        let value = self.value(v);
+        let class = self.class(value.d(), None);
+        for sibling in &mut self.values[value.siblings as usize..][..8] {
+            if sibling.class == Dep::Value(v) {
+                sibling.class = class;
+            }
+        }
     }
 
     fn value(&self, v: Name) -> Value {
@@ -104,14 +120,17 @@ impl<'a> Reading<'a> {
         self.value(self.registers[a])
     }
 
-    fn fresh(&mut self, a: usize, value: Value) {
-        self.values[self.made] = value;
-        self.registers[a] = self.made as Name;
+    /// A new value for register a, known equal to no other.
+    fn fresh(&mut self, a: usize, word: u32, siblings: Name) -> &mut Value {
+        let name = self.made as Name;
         self.made += 1;
+        self.registers[a] = name;
+        self.values[name as usize] = Value { word, siblings, class: Dep::Value(name) };
+        &mut self.values[name as usize]
     }
 
     pub fn constant(&mut self, a: usize, c: u32) {
-        self.fresh(a, Value { constant: Some(c as u16), ..UNKNOWN });
+        self.fresh(a, 0, 0).class = Dep::Constant(c as u16);
     }
 
     pub fn copy(&mut self, a: usize, b: usize) {
@@ -119,7 +138,7 @@ impl<'a> Reading<'a> {
     }
 
     pub fn unknown(&mut self, a: usize) {
-        self.fresh(a, UNKNOWN);
+        self.fresh(a, 0, 0);
     }
 
     /// The kind that a value of this type word has after opcode 7, None for Any: In by the size of a record is From; a run by whole records
@@ -139,29 +158,35 @@ impl<'a> Reading<'a> {
     pub fn moved(&mut self, a: usize, b: usize, c: u32) {
         let Value { word, siblings, .. } = self.held(b);
         match self.moved_kind(word, c) {
-            Some(kind) => self.fresh(a, Value { word: with_kind(word, kind), siblings, constant: None }),
-            None => self.unknown(a),
-        }
+            Some(kind) => self.fresh(a, with_kind(word, kind), siblings),
+            None => self.fresh(a, 0, 0),
+        };
     }
 
     // ---- known constants, known equal
 
-    fn some_constant(&self, x: Dep, fact: Fact, test: impl Fn(u32) -> bool) -> bool {
-        match x {
-            Dep::Constant(c) => test(u32::from(c)),
-            Dep::Value(v) => self.value(v).constant.is_some_and(|c| test(u32::from(c))) || fact.is_some_and(|(w, c)| w == v && test(c)),
-        }
-    }
-
-    fn is_same_of(&self, x: Dep, y: Dep) -> bool {
-        match x {
-            Dep::Value(v) => kind(self.value(v).word) == SAME && self.value(v).d() == y,
-            Dep::Constant(_) => false,
+    /// What stands for all that x is known equal to, by 'the least relation with the three cases of 01 that is also symmetric and transitive'.
+    fn class(&self, x: Dep, fact: Fact) -> Dep {
+        let class = match x {
+            Dep::Value(v) => self.value(v).class,
+            Dep::Constant(_) => x,
+        };
+        match fact {
+            Some((known, constant)) if class == known => constant,
+            _ => class,
         }
     }
 
     fn equal(&self, x: Dep, y: Dep, fact: Fact) -> bool {
-        x == y || self.is_same_of(x, y) || self.is_same_of(y, x) || self.some_constant(x, fact, |c| self.some_constant(y, fact, |d| c == d))
+        x == y || self.class(x, fact) == self.class(y, fact)
+    }
+
+    /// Whether a known constant of x passes a test: 'a value known equal to one with a known constant has that constant; where it then has
+    /// two, either serves'.
+    fn some_constant(&self, x: Dep, fact: Fact, test: impl Fn(u32) -> bool) -> bool {
+        let passes = |class: Dep| matches!(class, Dep::Constant(c) if test(u32::from(c)));
+        let class = self.class(x, fact);
+        passes(class) || fact.is_some_and(|(known, constant)| class == constant && passes(known))
     }
 
     fn known_tag(&self, d: Dep, t: usize, fact: Fact) -> bool {
@@ -232,13 +257,10 @@ impl<'a> Reading<'a> {
         let value = self.held(b);
         match kind(value.word) {
             REF | IN => Some(record(value.word)),
-            PRESENT => {
-                let k = match value.d() {
-                    Dep::Constant(c) => u16::from(c),
-                    Dep::Value(v) => self.value(v).constant?,
-                };
-                self.types.tags.get(usize::from(k)).map(|&t| t as usize)
-            }
+            PRESENT => match self.class(value.d(), None) {
+                Dep::Constant(k) => self.types.tags.get(usize::from(k)).map(|&t| t as usize),
+                Dep::Value(_) => None,
+            },
             _ => None,
         }
     }
@@ -281,9 +303,9 @@ impl<'a> Reading<'a> {
 
     // ---- edges
 
-    /// Whether the registers meet an annotation, with one more fact.
-    pub fn meets(&self, annotation: &[u32], fact: Fact) -> bool {
-        self.row_fits(annotation, &self.registers, fact)
+    /// Whether the registers meet an annotation.
+    pub fn meets(&self, annotation: &[u32]) -> bool {
+        self.row_fits(annotation, &self.registers, None)
     }
 
     /// The same with another kind of the value in register a.
@@ -291,20 +313,20 @@ impl<'a> Reading<'a> {
         let v = self.registers[a] as usize;
         let before = self.values[v].word;
         self.values[v].word = with_kind(before, kind);
-        let met = self.meets(annotation, None);
+        let met = self.meets(annotation);
         self.values[v].word = before;
         met
     }
 
     pub fn meets_equal(&self, annotation: &[u32], a: usize, k: u32) -> bool {
-        self.meets(annotation, Some((self.registers[a], k)))
+        self.row_fits(annotation, &self.registers, Some((self.held(a).class, Dep::Constant(k as u16))))
     }
 
     pub fn meets_not_equal(&mut self, annotation: &[u32], a: usize, k: u32) -> bool {
         match (k, kind(self.held(a).word)) {
             (0, MAYBE) => self.meets_as(annotation, a, REF),
             (0, TAGGED) => self.meets_as(annotation, a, PRESENT),
-            _ => self.meets(annotation, None),
+            _ => self.meets(annotation),
         }
     }
 
@@ -313,7 +335,7 @@ impl<'a> Reading<'a> {
         if kind(value.word) == FROM && self.equal(Dep::Value(self.registers[b]), value.e(), None) {
             return self.meets_as(annotation, a, IN);
         }
-        self.meets(annotation, None)
+        self.meets(annotation)
     }
 
     pub fn meets_not_less(&mut self, annotation: &[u32], a: usize, b: usize) -> bool {
@@ -321,6 +343,6 @@ impl<'a> Reading<'a> {
         if kind(value.word) == RUN && self.equal(Dep::Value(self.registers[b]), value.d(), None) {
             return self.meets_as(annotation, a, FROM);
         }
-        self.meets(annotation, None)
+        self.meets(annotation)
     }
 }

@@ -316,7 +316,7 @@ pub fn access(
     let b = word::b(word);
     let c = word::c(word);
     let v = registers[b];
-    let Reference::To(t) = fits::reference(tags, words, frames, constants, 0, 0, v) else {
+    let Reference::To(t) = fits::reference(tags, words, frames, constants, v) else {
         return refused(number::REFERENCE, s);
     };
     let x = Transfer {

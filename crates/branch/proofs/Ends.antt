@@ -13,7 +13,8 @@ use Rattle.model.specs.Word.{kindOf, firstOf, secondOf, opcodeOf, aOf, bOf, cOf
 use Rattle.model.specs.Types.{Dep, name, depOf, renameDep, Ty, any, ref, maybe, tagged, present, same, span}
 use Rattle.model.specs.Table.{Tables, Routine}
 use Rattle.model.specs.Machine.{End, halt, jump, ifEqual, ifLess, Instruction, plain, end, malformed, decode, targetsExist, formAsk}
-use Rattle.model.specs.Reading.{Values, birthplace, typed, knownEqual, rowFits, Reading, rekinded, notZero, below, notBelow, taken, untaken}
+use Rattle.model.specs.Values.{Values, birthplace, typed, knownEqual}
+use Rattle.model.specs.Reading.{rowFits, Reading, rekinded, notZero, below, notBelow, taken, untaken}
 use Rattle.model.specs.Check.{readEdges, readEnd, readInstruction}
 use Rattle.model.proofs.Lists.{set-same}
 use Rattle.model.proofs.Logic.{byTest, byEqual, number-of, answer-number, answer-of, answer-none}

@@ -10,7 +10,8 @@ use Rattle.model.specs.Question.{_and_, pick, provided, Question, numberOf, q13
 use Rattle.model.specs.Word.{kindOf, withKind}
 use Rattle.model.specs.Table.{Tables, Routine}
 use Rattle.model.specs.Machine.{End, Instruction, formAsk}
-use Rattle.model.specs.Reading.{Values, birthplace, typed, knownEqual, rowFits, Reading, notZero, noBase, taken, untaken}
+use Rattle.model.specs.Values.{Values, birthplace, typed, knownEqual}
+use Rattle.model.specs.Reading.{rowFits, Reading, notZero, noBase, taken, untaken}
 use Rattle.instruction.specs.Form.{targetOf, forks}
 use Rattle.known.specs.Numbers.{valuesOf, Lent, depAt, siblingOf}
 use Rattle.access.specs.State.{reading}

@@ -8,7 +8,8 @@ ghost use Rattle.model.specs.Question.{Question, Refusal, isAnswer};
 ghost use Rattle.model.specs.Word.{opcodeOf, aOf, bOf};
 ghost use Rattle.model.specs.Table.{Routine};
 ghost use Rattle.model.specs.Machine.{decode, wellFormed};
-ghost use Rattle.model.specs.Reading.{typed, below, notBelow, rowFits};
+ghost use Rattle.model.specs.Values.{typed};
+ghost use Rattle.model.specs.Reading.{below, notBelow, rowFits};
 ghost use Rattle.model.specs.Check.{readEdges};
 ghost use Rattle.instruction.specs.Rows.{opcodeRows};
 ghost use Rattle.instruction.specs.Form.{endOf};
@@ -161,8 +162,7 @@ fn learn(
 
 // ---- edges
 
-// Whether the registers meet the row of the block that an edge leads to. The value tested comes as a byte, so that the compiler knows it
-// to be no constant and leaves that test out of every comparison of names.
+// Whether the registers meet the row of the block that an edge leads to.
 fn edge(
     tags: &[u32],
     registers: &[u8; 8],
@@ -182,7 +182,7 @@ fn edge(
         words,
         frames,
         constants,
-        tested as u32,
+        tested,
         equal,
         limit::REGISTERS,
         row,

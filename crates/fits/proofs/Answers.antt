@@ -12,8 +12,8 @@ use Rattle.model.specs.Question.{_and_, _or_, every}
 use Rattle.model.specs.Word.{kindOf, recordOf, firstOf, secondOf}
 use Rattle.model.specs.Types.{Dep, depOf, renameDep, typeOf, rename, Ty, any, ref, maybe, tagged, present, same, span}
 use Rattle.model.specs.Table.{Tables}
-use Rattle.model.specs.Reading.{Values, birthplace, typed, constantsOf, some, knownEqual, knownTag, knownZero}
-use Rattle.model.specs.Reading.{isRef, isMaybe, isTagged, isPresent, isSpan, fits, rowFits, firstTag, referenceOf}
+use Rattle.model.specs.Values.{Values, birthplace, typed, constantsOf, some, knownEqual}
+use Rattle.model.specs.Reading.{knownTag, knownZero, isRef, isMaybe, isTagged, isPresent, isSpan, fits, rowFits, firstTag, referenceOf}
 use Rattle.model.specs.declared.Reference.{Reference}
 use Rattle.model.specs.declared.Reference.the-variants.{To, Nothing}
 use Rattle.model.proofs.Logic.{byTest, byEqual, either, or-true, or-of-true}

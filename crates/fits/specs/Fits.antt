@@ -8,7 +8,8 @@ use denote.Ref.{now}
 use Rattle.model.specs.Question.{_or_, pick}
 use Rattle.model.specs.Types.{Dep, Ty, any, ref, maybe, tagged, present, same, span, typeOf, rename}
 use Rattle.model.specs.Table.{Tables}
-use Rattle.model.specs.Reading.{Values, typed, isTagged, isPresent, fits}
+use Rattle.model.specs.Values.{Values, typed}
+use Rattle.model.specs.Reading.{isTagged, isPresent, fits}
 use Rattle.known.specs.Numbers.{Lent, tablesIn, valuesIn, depAt}
 use Rattle.fits.specs.declared.Referred.{Referred}
 use Rattle.fits.specs.declared.Referred.the-variants.{Record, Tag, Neither}

@@ -5,7 +5,8 @@ ghost use Prim.Native.Nat.{ℕ, _≤_, _<_};
 ghost use lib.ListN.{length};
 ghost use Rattle.model.specs.Word.{kindOf};
 ghost use Rattle.model.specs.Table.{tablesOf};
-ghost use Rattle.model.specs.Reading.{typed, isRef, isMaybe, fits, rowFits, referenceOf};
+ghost use Rattle.model.specs.Values.{typed};
+ghost use Rattle.model.specs.Reading.{isRef, isMaybe, fits, rowFits, referenceOf};
 ghost use Rattle.known.specs.Numbers.{valuesOf, tablesIn, valuesIn, depAt};
 ghost use Rattle.fits.specs.Fits.{ofValue, fitsIn, meant, refers, refersOf, byRecord, byOwnTag, tagFits, placeFits};
 use model::Reference;
@@ -43,7 +44,7 @@ fn is_ref(
     words: &[u32; 256],
     frames: &[u8; 32],
     constants: &[u32; 32],
-    tested: u32,
+    tested: u8,
     equal: u32,
     v: u8,
     t: u32,
@@ -74,7 +75,7 @@ fn is_maybe(
     words: &[u32; 256],
     frames: &[u8; 32],
     constants: &[u32; 32],
-    tested: u32,
+    tested: u8,
     equal: u32,
     v: u8,
     t: u32,
@@ -98,7 +99,7 @@ fn is_span(
     words: &[u32; 256],
     frames: &[u8; 32],
     constants: &[u32; 32],
-    tested: u32,
+    tested: u8,
     equal: u32,
     v: u8,
     w: u32,
@@ -132,7 +133,7 @@ fn fits_pointer(
     words: &[u32; 256],
     frames: &[u8; 32],
     constants: &[u32; 32],
-    tested: u32,
+    tested: u8,
     equal: u32,
     v: u8,
     w: u32,
@@ -189,7 +190,7 @@ fn tag_fits(
     words: &[u32; 256],
     frames: &[u8; 32],
     constants: &[u32; 32],
-    tested: u32,
+    tested: u8,
     equal: u32,
     v: u8,
     y: u32,
@@ -217,7 +218,7 @@ fn fits_tagged(
     words: &[u32; 256],
     frames: &[u8; 32],
     constants: &[u32; 32],
-    tested: u32,
+    tested: u8,
     equal: u32,
     v: u8,
     w: u32,
@@ -243,7 +244,7 @@ fn value_fits(
     words: &[u32; 256],
     frames: &[u8; 32],
     constants: &[u32; 32],
-    tested: u32,
+    tested: u8,
     equal: u32,
     v: u8,
     w: u32,
@@ -278,7 +279,7 @@ pub fn field_fits(
     words: &[u32; 256],
     frames: &[u8; 32],
     constants: &[u32; 32],
-    tested: u32,
+    tested: u8,
     equal: u32,
     k: usize,
     row: &[u32],
@@ -307,7 +308,7 @@ pub fn row_fits(
     words: &[u32; 256],
     frames: &[u8; 32],
     constants: &[u32; 32],
-    tested: u32,
+    tested: u8,
     equal: u32,
     n: usize,
     row: &[u32],
@@ -329,22 +330,20 @@ pub fn row_fits(
 
 // ---- references
 
-// The record type that the value v is a reference to.
+// The record type that the value v is a reference to. This is asked inside a block, where nothing was tested.
 pub fn reference(
     tags: &[u32],
     words: &[u32; 256],
     frames: &[u8; 32],
     constants: &[u32; 32],
-    tested: u32,
-    equal: u32,
     v: u8,
 ) -> Reference
-    ensures { λ r. ⌜ ((types : List ℕ) → r ≡ ofValue referenceOf types tags words frames constants tested equal v) ⌝ }
+    ensures { λ r. ⌜ ((types : List ℕ) → r ≡ ofValue referenceOf types tags words frames constants 0 0 v) ⌝ }
 {
     let by = refers_by(words, frames, v);
     match by {
         Referred::Record(t) => Reference::To(t),
-        Referred::Tag(x) => known::known_type(tags, words, frames, constants, tested, equal, x),
+        Referred::Tag(x) => known::known_type(tags, words, frames, constants, x),
         Referred::Neither => Reference::Nothing,
     }
 }

@@ -1,19 +1,19 @@
 -- Laws of numbers for frames, dependencies and known constants.
 use mathlib.Core.Path.{_≡_, refl, sym, ap, _∙_}
 use mathlib.Core.Bool.{Bool, true, false}
-use mathlib.Core.List.{List, [], _∷_, _++_, append-nil}
+use mathlib.Core.List.{List, [], _∷_, _++_}
 use Prim.Native.Nat.{ℕ, zero, suc, _+_, _-_, _*_, _%_, _<_, _≤_}
 use native.Mathlib.Omega.{arith}
 use lib.Dec.{eqb}
 use lib.ListN.{getD, set}
-use borrow.Author.Tests.{lt-ltb, le-ltb, eq-eqb, ne-eqb}
-use Rattle.model.specs.Question.{_or_, pick}
+use borrow.Author.Tests.{lt-ltb, le-ltb, le-leb, eq-eqb, ne-eqb}
+use Rattle.model.specs.Question.{_and_, _or_}
 use Rattle.model.specs.Word.{kindOf, recordOf, firstOf, secondOf}
 use Rattle.model.specs.Types.{Dep, name, con, depOf, renameDep, any, ref, maybe, tagged, present, same, span, typeOf, rename}
-use Rattle.model.specs.Reading.{Values, typed, constantHeld, constantsOf, some, sameDep}
+use Rattle.model.specs.Values.{constantHeld, some, sameDep, oneConstant}
 use Rattle.model.proofs.Logic.{byTest, byEqual, byLess}
 use Rattle.model.proofs.Lists.{map-set}
-use Rattle.known.specs.Numbers.{frameOf, framesOf, valuesOf, depAt, siblingOf, namedOf, testedConstant, oneConstant, sharedConstant}
+use Rattle.known.specs.Numbers.{frameOf, framesOf, depAt, siblingOf, namedOf}
 
 -- ---- frames
 
@@ -73,6 +73,11 @@ same-numbers x y =
     (byEqual x y (λ e. rw (eq-eqb x y e, eq-eqb (x - 256) (y - 256) (omega arith)))
     (λ n. rw (ne-eqb x y n, ne-eqb (x - 256) (y - 256) (λ e. n (omega arith)))))))
 
+pub same-itself : (d : Dep) → sameDep d d ≡ true
+unfolding sameDep
+same-itself (name v) = eq-eqb v v refl
+same-itself (con c) = eq-eqb c c refl
+
 -- ---- the type of a word, by its kind
 
 module _ (σ : ℕ → ℕ) (w : ℕ) where
@@ -130,25 +135,12 @@ pub some-one : (f : ℕ → Bool) (n : ℕ) → 0 < n → some f (constantHeld n
 unfolding some _or_
 some-one f n h = let e : n ≡ suc (n - 1) = omega arith in ap {B = Bool} (λ (m : ℕ). some f (constantHeld m)) e ∙ byTest (f (n - 1)) (λ q. rw q) (λ q. rw q)
 
--- the answers of two constants
-module _ (f : ℕ → Bool) (k l : ℕ) (cs : List ℕ) (e : cs ≡ constantHeld k ++ constantHeld l) where
-  pub some-first : some f (constantHeld k) ≡ true → true ≡ some f cs
-  unfolding _or_
-  some-first h = rw (e, some-both f (constantHeld k) (constantHeld l), h)
-
-  pub some-second : some f (constantHeld k) ≡ false → (b : Bool) → b ≡ some f (constantHeld l) → b ≡ some f cs
-  unfolding _or_
-  some-second g b eb = rw (e, some-both f (constantHeld k) (constantHeld l), g) eb
-
 -- ---- one constant
 
 pub or-false : (b : Bool) → b or false ≡ b
 unfolding _or_
 or-false true = refl
 or-false false = refl
-
-either-way : (a b : ℕ) → eqb a b ≡ eqb b a
-either-way a b = byEqual a b (λ e. rw (eq-eqb a b e, eq-eqb b a (sym e))) (λ n. rw (ne-eqb a b n, ne-eqb b a (λ e. n (sym e))))
 
 pub held-is : (n c : ℕ) → some (eqb c) (constantHeld n) ≡ eqb n (suc c)
 unfolding some _or_
@@ -157,72 +149,11 @@ held-is (suc d) c =
     byEqual c d (λ e. rw (eq-eqb c d e, eq-eqb (suc d) (suc c) (omega arith)))
     (λ n. rw (ne-eqb c d n, ne-eqb (suc d) (suc c) (λ e. n (omega arith))))
 
-pub one-none : (k l : ℕ) → k ≡ 0 → false ≡ oneConstant k l
-unfolding oneConstant
-one-none k l e = sym (some-none _ k e)
+module _ (k l : ℕ) where
+  pub one-none : k ≡ 0 → false ≡ oneConstant k l
+  unfolding oneConstant _and_
+  one-none e = rw e
 
-pub one-of-none : (k : ℕ) → oneConstant k 0 ≡ false
-unfolding oneConstant some _or_
-one-of-none zero = refl
-one-of-none (suc c) = refl
-
-pub one-is : (k l : ℕ) → (k ≡ 0 → ⊥) → eqb k l ≡ oneConstant k l
-unfolding oneConstant
-one-is k l n =
-    let e : suc (k - 1) ≡ k = omega arith in
-    sym (some-one (λ c. some (eqb c) (constantHeld l)) k (omega arith) ∙ held-is l (k - 1) ∙ rw e (either-way l k))
-
--- one of two constants
-one-among : (k l t : ℕ) → some (λ c. some (eqb c) (constantHeld l ++ constantHeld t)) (constantHeld k) ≡ oneConstant k l or oneConstant k t
-unfolding some oneConstant _or_
-one-among zero l t = refl
-one-among (suc c) l t = rw (some-both (eqb c) (constantHeld l) (constantHeld t)) (simp or-false)
-
-module _ (vs : Values) (d e : Dep) (k l s t : ℕ) (ed : constantsOf vs d ≡ constantHeld k ++ constantHeld s)
-    (ee : constantsOf vs e ≡ constantHeld l ++ constantHeld t) where
-  pub shared-parts : sharedConstant vs d e ≡ (oneConstant k l or oneConstant k t) or (oneConstant s l or oneConstant s t)
-  unfolding sharedConstant
-  shared-parts =
-      rw (ed, ee, some-both (λ c. some (eqb c) (constantHeld l ++ constantHeld t)) (constantHeld k) (constantHeld s), one-among k l t, one-among s l t)
-
--- ---- the constant that a test gave
-
-module _ (tested equal x : ℕ) where
-  pub tested-other : (x ≡ tested → ⊥) → testedConstant tested equal (depAt x) ≡ 0
-  unfolding testedConstant
-  tested-other n = byLess x 256 (λ h. rw (dep-name x h, ne-eqb x tested n)) (λ h. rw (dep-constant x h))
-
-  pub tested-constant : 256 ≤ x → testedConstant tested equal (depAt x) ≡ 0
-  unfolding testedConstant
-  tested-constant h = rw (dep-constant x h)
-
-  pub tested-value : x < 256 → x ≡ tested → testedConstant tested equal (depAt x) ≡ equal
-  unfolding testedConstant
-  tested-value h e = rw (dep-name x h, eq-eqb x tested e)
-
-  pub tested-nothing : equal ≡ 0 → testedConstant tested equal (depAt x) ≡ 0
-  tested-nothing z =
-      byEqual x tested (λ e. byLess x 256 (λ h. tested-value h e ∙ z) tested-constant) tested-other
-
--- no test gave a constant to both of two
-pub tested-one : (tested equal x y : ℕ) → (x ≡ y → ⊥)
-    → oneConstant (testedConstant tested equal (depAt x)) (testedConstant tested equal (depAt y)) ≡ false
-tested-one tested equal x y n =
-    byEqual x tested (λ e. rw (tested-other tested equal y (λ q. n (omega arith))) (one-of-none _))
-    (λ q. sym (one-none _ _ (tested-other tested equal x q)))
-
--- what a test adds to the constants of a dependency
-pub pick-same : (b : Bool) (n : ℕ) → pick b n n ≡ n
-pick-same true n = refl
-pick-same false n = refl
-
-module _ (words frames constants : List ℕ) (tested equal : ℕ) where
-  tested-adds : (d : Dep) → constantsOf (valuesOf words frames constants tested equal) d
-      ≡ constantsOf (valuesOf words frames constants 0 0) d ++ constantHeld (testedConstant tested equal d)
-  unfolding constantsOf testedConstant typed
-  tested-adds (name v) = simp (pick-same, append-nil)
-  tested-adds (con c) = refl
-
-  pub constants-are : (x k : ℕ) → constantHeld k ≡ constantsOf (valuesOf words frames constants 0 0) (depAt x)
-      → constantsOf (valuesOf words frames constants tested equal) (depAt x) ≡ constantHeld k ++ constantHeld (testedConstant tested equal (depAt x))
-  constants-are x k e = tested-adds (depAt x) ∙ rw e
+  pub one-is : (k ≡ 0 → ⊥) → eqb k l ≡ oneConstant k l
+  unfolding oneConstant _and_
+  one-is n = rw (le-leb 1 k (omega arith))

@@ -7,10 +7,12 @@ use lib.Dec.{ltb, eqb}
 use lib.ListN.{getD}
 use denote.Ref.{RefT, now}
 use denote.Triple.Both.{Both}
-use Rattle.model.specs.Question.{_or_, pick}
+use Rattle.model.specs.Question.{_and_, _or_, pick}
+use Rattle.model.specs.Word.{kindOf, firstOf}
 use Rattle.model.specs.Types.{Dep, name, con, depOf, renameDep}
 use Rattle.model.specs.Table.{Tables, tablesOf}
-use Rattle.model.specs.Reading.{Values, constantHeld, constantsOf, some, tagOf, beyond}
+use Rattle.model.specs.Values.{Values, joined}
+use Rattle.model.specs.Reading.{tagOf, beyond}
 
 -- A frame is held as the birthplace of its eight names. There are 32 birthplaces, so that every name is below 256.
 abbrev pub frameOf : ℕ → ℕ
@@ -21,7 +23,7 @@ framesOf l = map frameOf l
 
 abbrev pub valuesOf : List ℕ → List ℕ → List ℕ → ℕ → ℕ → Values
 valuesOf words frames constants tested equal =
-    record { words = words; frames = framesOf frames; constants = constants; tested = tested; equal = equal }
+    record { words = words; frames = framesOf frames; constants = constants; tested = tested; equal = equal; knowledge = joined }
 
 -- an array or a table that a function is lent, at its entry and at its exit
 abbrev pub Lent : Type 0
@@ -46,20 +48,9 @@ siblingOf frame x = renameDep (λ i. frame + i) (depOf x)
 unfoldable pub namedOf : List ℕ → ℕ → Dep
 namedOf names x = renameDep (λ i. getD names i 0) (depOf x)
 
--- ---- known constants
-
--- 01: 'Opcode 11 taken: ra is known to be the constant'
-unfoldable pub testedConstant : ℕ → ℕ → Dep → ℕ
-testedConstant tested equal (name v) = pick (eqb v tested) equal 0
-testedConstant tested equal (con c) = 0
-
--- k and l hold one constant
-unfoldable pub oneConstant : ℕ → ℕ → Bool
-oneConstant k l = some (λ c. some (eqb c) (constantHeld l)) (constantHeld k)
-
--- 01: 'have the same known constant'
-unfoldable pub sharedConstant : Values → Dep → Dep → Bool
-sharedConstant vs x y = some (λ c. some (eqb c) (constantsOf vs y)) (constantsOf vs x)
+-- w is Same of a name
+unfoldable pub linked : ℕ → Bool
+linked w = eqb (kindOf w) 5 and ltb (firstOf w) 8
 
 -- 01: 'a tag of T or beyond the table'; or a tag of T alone
 abbrev pub servesAsTag : Bool → Tables → ℕ → ℕ → Bool

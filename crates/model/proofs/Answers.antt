@@ -1,7 +1,8 @@
--- The cases marked * hold, and so do those that tell wrong readings apart: each is computed.
+-- The cases marked * hold, and so do those that tell wrong readings apart, and those of card 13: each is computed.
 use mathlib.Core.Path.{refl}
 use Rattle.model.specs.Cases.{Cases}
 use Rattle.model.specs.Misreadings.{Misreadings}
+use Rattle.model.specs.Chains.{ChainCases}
 use Rattle.model.proofs.Compute.{computed}
 
 pub cases-hold : Cases
@@ -62,4 +63,27 @@ misreadings-refused =
       pauseInside = refl;
       faultAfter = refl;
       signedLess = refl;
+    }
+
+pub chains-hold : ChainCases
+unfolding computed
+chains-hold =
+    record {
+      chained = (refl, refl);
+      longest = (refl, refl);
+      meeting = (refl, refl);
+      circle = (refl, refl);
+      unjoined = (refl, refl);
+      constantOn = (refl, refl);
+      otherConstant = (refl, refl);
+      tagOn = (refl, refl);
+      firstOfTwo = (refl, refl);
+      secondOfTwo = (refl, refl);
+      neitherOfTwo = (refl, refl);
+      fieldsOn = (refl, refl);
+      otherRecord = (refl, refl);
+      walkOn = (refl, refl);
+      noReference = (refl, refl);
+      noRefinement = (refl, refl);
+      withStores = (refl, refl);
     }

@@ -16,8 +16,8 @@ use Rattle.model.specs.Types.{Dep, name, Ty, same, depOf, ofKind, typeOf
 use Rattle.model.specs.Table.{Tables, Routine}
 use Rattle.model.specs.Meaning.{Allocation, RecordMeets, RegistersMeet}
 use Rattle.model.specs.Machine.{End, halt, jump, ifEqual, ifLess, reg, Next, stop, enter, next, targetsExist}
-use Rattle.model.specs.Reading.{Values, birthplace, typed, knownEqual, Reading, upFrom, entry, learned, rekinded, notZero, below, notBelow}
-use Rattle.model.specs.Reading.{taken, untaken}
+use Rattle.model.specs.Values.{Values, birthplace, typed, knownEqual}
+use Rattle.model.specs.Reading.{Reading, upFrom, entry, learned, rekinded, notZero, below, notBelow, taken, untaken}
 use Rattle.model.specs.Check.{valueIn, edgeMeets, readEdges}
 use Rattle.model.proofs.Logic.{byTest, byEqual, byLess, either, and-true, ask-ok}
 use Rattle.model.proofs.Lists.{set-every, getD-map, getD-past, zeros-at, upFrom-at, length-upFrom}

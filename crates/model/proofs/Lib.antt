@@ -4,6 +4,9 @@ pub mod Width
 pub mod Rows
 pub mod Compute
 pub mod Answers
+pub mod Roots
+pub mod KnownValues
+pub mod Joined
 pub mod RulesDecide
 pub mod Inversion
 pub mod Tidy
@@ -34,6 +37,7 @@ pub mod ReadingEdges
 pub mod ReadingBlocks
 pub mod ReadingLaws
 pub mod ReadingExample
+pub mod Chains
 pub mod Exact
 pub mod Safe
 pub mod ChecksAgain

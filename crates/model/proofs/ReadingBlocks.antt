@@ -21,21 +21,24 @@ use Rattle.model.specs.ReadingRules.{made, BlockState, holds, onEntry, R
 use Rattle.model.specs.ReadingRules.{less-meets, Obeys, in-block, ends-block, Reaches, enters, reads-on, ObeysAt, EdgesNo, jump-no, equal-no}
 use Rattle.model.specs.ReadingRules.{not-equal-no, less-no, not-less-no, Disobeys, no-form, too-late, no-access, too-early, no-target}
 use Rattle.model.specs.ReadingRules.{still-open, no-edge, TypeGiven, DisobeysAt, FirstDisobeys}
-use Rattle.model.specs.Reading.{Values, birthplace, ownConstant, typed, Reading, upFrom, entry, isOpen, taken, untaken}
+use Rattle.model.specs.Values.{Values, birthplace, ownConstant, typed}
+use Rattle.model.specs.Reading.{Reading, upFrom, entry, isOpen, taken, untaken}
 use Rattle.model.specs.Check.{valueIn, referenceIn, readPlain, edgeMeets, readEdges, readEnd, noAt, readInstruction, readAt, readingAt, judge}
 use Rattle.model.proofs.Logic.{byTest, byEqual, byLess, either, ask-ok, ok-ask, then-ok, ok-then, passed-then, then-refused, ok-same, not-ok, not-true}
 use Rattle.model.proofs.Logic.{refused-same, pick-both, verdict-ok, ok-verdict, verdict-refused}
 use Rattle.model.proofs.Lists.{zeros-at}
-use Rattle.model.proofs.RulesDecide.{optionOf, knownOf}
+use Rattle.model.proofs.KnownValues.{optionOf, knownOf}
+use Rattle.model.proofs.RulesDecide.{Chained, Decides, decides}
 use Rattle.model.proofs.Decode.{Fine, PlainFine, decode-fine}
 use Rattle.model.proofs.Tidy.{Tidy, entry-word}
 use Rattle.model.proofs.Rows.{eight-words, words-eight}
-use Rattle.model.proofs.Unique.{to-same, reference-decides, reading-tidy}
+use Rattle.model.proofs.Unique.{chained, to-same, reference-decides, reading-tidy}
 use Rattle.model.proofs.Exactly.{questionsAt, NoNo, judge-exactly, judge-refused, passed-lengths}
 use Rattle.model.proofs.TableLaws.{sized}
 use Rattle.model.proofs.ReadingStates.{seenOf, throughOf, stateOf}
 use Rattle.model.proofs.ReadingDecides.{row-rule, rule-row, plain-reads, PassedPlain, reads-plain, plain-refused, refused-plain, none-not-some}
-use Rattle.model.proofs.ReadingEdges.{jump-tells, equal-tells, less-tells, unequal-tells, not-less-tells, taken-one, untaken-one}
+use Rattle.model.proofs.ReadingEdges.{taken-chained, untaken-chained, jump-tells, equal-tells, less-tells, unequal-tells, not-less-tells}
+use Rattle.model.proofs.ReadingEdges.{taken-one, untaken-one}
 
 -- ---- the entry
 
@@ -87,8 +90,14 @@ module _ (𝒯 : Tables) (P : Routine) (st : Reading) (g : ℕ) (T : Tidy st g) 
   meets : (vs : Values) (t : ℕ) → edgeMeets 𝒯 P st vs t ≡ true → EdgeMeets 𝒯 P (stateOf st) (knownOf vs) t
   meets vs t e = row-rule 𝒯 vs 8 (P .annotation t) (st .registers) e
 
-  meets-back : (vs : Values) (K : Known) (t : ℕ) → K ≡ knownOf vs → EdgeMeets 𝒯 P (stateOf st) K t → edgeMeets 𝒯 P st vs t ≡ true
-  meets-back vs K t e M = rule-row 𝒯 vs 8 (P .annotation t) (st .registers) (subst (λ (L : Known). EdgeMeets 𝒯 P (stateOf st) L t) e M)
+  on-taken : (e : End) → Chained (taken e st)
+  on-taken e = taken-chained e st (chained 𝒯 (st .values) g (T .values))
+
+  on-untaken : (e : End) → Chained (untaken e st)
+  on-untaken e = untaken-chained e st (chained 𝒯 (st .values) g (T .values))
+
+  meets-back : (vs : Values) → Chained vs → (K : Known) (t : ℕ) → K ≡ knownOf vs → EdgeMeets 𝒯 P (stateOf st) K t → edgeMeets 𝒯 P st vs t ≡ true
+  meets-back vs Z K t e M = rule-row 𝒯 vs Z 8 (P .annotation t) (st .registers) (subst (λ (L : Known). EdgeMeets 𝒯 P (stateOf st) L t) e M)
 
   edges-rule : (e : End) → readEdges 𝒯 P place b e st ≡ ok tt → EdgesMeet 𝒯 P b (stateOf st) e
   unfolding readEdges
@@ -106,13 +115,13 @@ module _ (𝒯 : Tables) (P : Routine) (st : Reading) (g : ℕ) (T : Tidy st g) 
   rule-edges : (e : End) → EdgesMeet 𝒯 P b (stateOf st) e → readEdges 𝒯 P place b e st ≡ ok tt
   unfolding readEdges
   rule-edges halt halt-meets = refl
-  rule-edges (jump t) (jump-meets K M) = ok-ask _ _ _ (meets-back _ _ t (taken-one 𝒯 (stateOf st) K (jump-tells 𝒯 st g T few t)) M)
+  rule-edges (jump t) (jump-meets K M) = ok-ask _ _ _ (meets-back _ (on-taken _) _ t (taken-one 𝒯 (stateOf st) K (jump-tells 𝒯 st g T few t)) M)
   rule-edges (ifEqual x k t) (equal-meets K M L N) =
-      ok-ask _ _ _ (meets-back _ _ t (taken-one 𝒯 (stateOf st) K (equal-tells 𝒯 st g T few x k t)) M)
-      ∙ ok-ask _ _ _ (meets-back _ _ b (untaken-one 𝒯 (stateOf st) L (unequal-tells 𝒯 st g T few x k t)) N)
+      ok-ask _ _ _ (meets-back _ (on-taken _) _ t (taken-one 𝒯 (stateOf st) K (equal-tells 𝒯 st g T few x k t)) M)
+      ∙ ok-ask _ _ _ (meets-back _ (on-untaken _) _ b (untaken-one 𝒯 (stateOf st) L (unequal-tells 𝒯 st g T few x k t)) N)
   rule-edges (ifLess x y t) (less-meets K M L N) =
-      ok-ask _ _ _ (meets-back _ _ t (taken-one 𝒯 (stateOf st) K (less-tells 𝒯 st g T few x y t)) M)
-      ∙ ok-ask _ _ _ (meets-back _ _ b (untaken-one 𝒯 (stateOf st) L (not-less-tells 𝒯 st g T few x y t)) N)
+      ok-ask _ _ _ (meets-back _ (on-taken _) _ t (taken-one 𝒯 (stateOf st) K (less-tells 𝒯 st g T few x y t)) M)
+      ∙ ok-ask _ _ _ (meets-back _ (on-untaken _) _ b (untaken-one 𝒯 (stateOf st) L (not-less-tells 𝒯 st g T few x y t)) N)
 
   -- which edge has the first no
   record RefusedEdge (e : End) (r : Refusal) : Type 0 where
@@ -120,33 +129,45 @@ module _ (𝒯 : Tables) (P : Routine) (st : Reading) (g : ℕ) (T : Tidy st g) 
     is : r ≡ place question
     no : EdgesNo 𝒯 P b (stateOf st) e question
 
-  meets-not : (vs : Values) (t : ℕ) → edgeMeets 𝒯 P st vs t ≡ false → EdgeMeets 𝒯 P (stateOf st) (knownOf vs) t → ⊥
-  meets-not vs t q M = false≢true (sym q ∙ meets-back vs (knownOf vs) t refl M)
+  meets-not : (vs : Values) → Chained vs → (t : ℕ) → edgeMeets 𝒯 P st vs t ≡ false → EdgeMeets 𝒯 P (stateOf st) (knownOf vs) t → ⊥
+  meets-not vs Z t q M = false≢true (sym q ∙ meets-back vs Z (knownOf vs) t refl M)
 
   edges-no : (e : End) (r : Refusal) → readEdges 𝒯 P place b e st ≡ refused r → RefusedEdge e r
   unfolding readEdges provided
   edges-no halt r q = absurd (not-ok (sym q))
   edges-no (jump t) r q =
       byTest (edgeMeets 𝒯 P st (taken (jump t) st) t) (λ p. absurd (not-ok (sym (rw p at q))))
-      (λ p. record { question = q14; is = sym (refused-same {A = Unit {0}} (rw p at q)); no = jump-no (jump-tells 𝒯 st g T few t) (meets-not _ t p) })
+      (λ p. record {
+        question = q14;
+        is = sym (refused-same {A = Unit {0}} (rw p at q));
+        no = jump-no (jump-tells 𝒯 st g T few t) (meets-not _ (on-taken _) t p);
+      })
   edges-no (ifEqual x k t) r q =
       byTest (edgeMeets 𝒯 P st (taken (ifEqual x k t) st) t)
       (λ p. byTest (edgeMeets 𝒯 P st (untaken (ifEqual x k t) st) b) (λ z. absurd (not-ok (sym (rw (p, z) at q))))
       (λ z. record {
         question = q15;
         is = sym (refused-same {A = Unit {0}} (rw (p, z) at q));
-        no = not-equal-no (equal-tells 𝒯 st g T few x k t) (meets _ t p) (unequal-tells 𝒯 st g T few x k t) (meets-not _ b z);
+        no = not-equal-no (equal-tells 𝒯 st g T few x k t) (meets _ t p) (unequal-tells 𝒯 st g T few x k t) (meets-not _ (on-untaken _) b z);
       }))
-      (λ p. record { question = q14; is = sym (refused-same {A = Unit {0}} (rw p at q)); no = equal-no (equal-tells 𝒯 st g T few x k t) (meets-not _ t p) })
+      (λ p. record {
+        question = q14;
+        is = sym (refused-same {A = Unit {0}} (rw p at q));
+        no = equal-no (equal-tells 𝒯 st g T few x k t) (meets-not _ (on-taken _) t p);
+      })
   edges-no (ifLess x y t) r q =
       byTest (edgeMeets 𝒯 P st (taken (ifLess x y t) st) t)
       (λ p. byTest (edgeMeets 𝒯 P st (untaken (ifLess x y t) st) b) (λ z. absurd (not-ok (sym (rw (p, z) at q))))
       (λ z. record {
         question = q15;
         is = sym (refused-same {A = Unit {0}} (rw (p, z) at q));
-        no = not-less-no (less-tells 𝒯 st g T few x y t) (meets _ t p) (not-less-tells 𝒯 st g T few x y t) (meets-not _ b z);
+        no = not-less-no (less-tells 𝒯 st g T few x y t) (meets _ t p) (not-less-tells 𝒯 st g T few x y t) (meets-not _ (on-untaken _) b z);
       }))
-      (λ p. record { question = q14; is = sym (refused-same {A = Unit {0}} (rw p at q)); no = less-no (less-tells 𝒯 st g T few x y t) (meets-not _ t p) })
+      (λ p. record {
+        question = q14;
+        is = sym (refused-same {A = Unit {0}} (rw p at q));
+        no = less-no (less-tells 𝒯 st g T few x y t) (meets-not _ (on-taken _) t p);
+      })
 
   not-meets : (vs : Values) (K : Known) (t : ℕ) → knownOf vs ≡ K → (EdgeMeets 𝒯 P (stateOf st) K t → ⊥) → edgeMeets 𝒯 P st vs t ≡ false
   not-meets vs K t e N = byTest (edgeMeets 𝒯 P st vs t) (λ p. absurd (N (subst (λ (L : Known). EdgeMeets 𝒯 P (stateOf st) L t) e (meets vs t p)))) (λ p. p)
@@ -160,11 +181,11 @@ module _ (𝒯 : Tables) (P : Routine) (st : Reading) (g : ℕ) (T : Tidy st g) 
   no-edges (jump t) q (jump-no K N) = no-ask _ _ _ (not-meets _ _ t (taken-one 𝒯 (stateOf st) (jump-tells 𝒯 st g T few t) K) N)
   no-edges (ifEqual x k t) q (equal-no K N) = no-ask _ _ _ (not-meets _ _ t (taken-one 𝒯 (stateOf st) (equal-tells 𝒯 st g T few x k t) K) N)
   no-edges (ifEqual x k t) q (not-equal-no K M L N) =
-      ok-ask _ _ _ (meets-back _ _ t (taken-one 𝒯 (stateOf st) K (equal-tells 𝒯 st g T few x k t)) M)
+      ok-ask _ _ _ (meets-back _ (on-taken _) _ t (taken-one 𝒯 (stateOf st) K (equal-tells 𝒯 st g T few x k t)) M)
       ∙ no-ask _ _ _ (not-meets _ _ b (untaken-one 𝒯 (stateOf st) (unequal-tells 𝒯 st g T few x k t) L) N)
   no-edges (ifLess x y t) q (less-no K N) = no-ask _ _ _ (not-meets _ _ t (taken-one 𝒯 (stateOf st) (less-tells 𝒯 st g T few x y t) K) N)
   no-edges (ifLess x y t) q (not-less-no K M L N) =
-      ok-ask _ _ _ (meets-back _ _ t (taken-one 𝒯 (stateOf st) K (less-tells 𝒯 st g T few x y t)) M)
+      ok-ask _ _ _ (meets-back _ (on-taken _) _ t (taken-one 𝒯 (stateOf st) K (less-tells 𝒯 st g T few x y t)) M)
       ∙ no-ask _ _ _ (not-meets _ _ b (untaken-one 𝒯 (stateOf st) (not-less-tells 𝒯 st g T few x y t) L) N)
 
 -- ---- the instructions of a block
@@ -183,6 +204,13 @@ module _ (types tags : List ℕ) (C : Code) where
   -- what a reading of the block is
   tidy-before : (b j : ℕ) (st : Reading) → P′ .long b ≤ 32 → j < P′ .long b → readingAt 𝒯′ P′ b j ≡ ok st → Tidy st (suc j)
   tidy-before b j st m l q = reading-tidy types tags C b j st m (omega arith) q
+
+  -- the tests decide the rules of known constants, known equal and fits in every reading of the block, and on the edges of its end
+  pub reading-decides : (b j : ℕ) (st : Reading) → P′ .long b ≤ 32 → j < P′ .long b → readingAt 𝒯′ P′ b j ≡ ok st
+      → Decides 𝒯′ (st .values) × ((e : End) → Decides 𝒯′ (taken e st) × Decides 𝒯′ (untaken e st))
+  reading-decides b j st m l q =
+      let Z = chained 𝒯′ (st .values) (suc j) (tidy-before b j st m l q .values) in
+      (decides 𝒯′ (st .values) Z, λ e. (decides 𝒯′ (taken e st) (taken-chained e st Z), decides 𝒯′ (untaken e st) (untaken-chained e st Z)))
 
   starts : (b : ℕ) → stateOf (entry (P′ .annotation b)) ≡ onEntry (P′ .annotation b)
   starts b = entry-state (P′ .annotation b) (unfold routineOf in (eight-words (C .blocks) b))

@@ -21,17 +21,19 @@ use Rattle.model.specs.ReadingRules.{BlockState, holding, giving, closin
 use Rattle.model.specs.ReadingRules.{RowFits, Moves, Walks, NoMove, NoWalk, MayAccess, Sees, newly, again, Closes, Reads, copies, constants}
 use Rattle.model.specs.ReadingRules.{adds, subtracts, multiplies, divides, moves-any, moves-from, moves-run, loads, opens, closes, AccessNo, no-reference}
 use Rattle.model.specs.ReadingRules.{past-the-size, another-open, PlainNo, load-no, store-no}
-use Rattle.model.specs.Reading.{Values, birthplace, typed, rowFits, referenceOf, Reading, fresh, powerOfTwo, onSpan, moves, walks, movedWord}
-use Rattle.model.specs.Reading.{isOpen, seen, viewed, look, loaded, stored}
+use Rattle.model.specs.Values.{Values, birthplace, typed}
+use Rattle.model.specs.Reading.{rowFits, referenceOf, Reading, fresh, powerOfTwo, onSpan, moves, walks, movedWord, isOpen, seen, viewed, look}
+use Rattle.model.specs.Reading.{loaded, stored}
 use Rattle.model.specs.Check.{valueIn, withReference, referenceIn, mayTouch, onRecord, readPlain}
-use Rattle.model.proofs.Logic.{byTest, byLess, either, true-and, or-true, true-or, or-of-true, not-true, every-true, true-every, ok-same}
+use Rattle.model.proofs.Logic.{byTest, byLess, either, true-and, or-true, not-true, every-true, true-every, ok-same}
 use Rattle.model.proofs.Logic.{not-ok, refused-same, pick-both}
-use Rattle.model.proofs.RulesDecide.{optionOf, knownOf, fits-rule, rule-fits}
-use Rattle.model.proofs.Inversion.{record-ok, moves-span, walks-span}
+use Rattle.model.proofs.KnownValues.{optionOf, knownOf}
+use Rattle.model.proofs.RulesDecide.{Chained, fits-rule, rule-fits}
+use Rattle.model.proofs.Inversion.{record-ok, may-touch, record-again, moves-span, walks-span}
 use Rattle.model.proofs.Decode.{PlainFine}
 use Rattle.model.proofs.Tidy.{Tidy, look-tidy}
 use Rattle.model.proofs.Mean.{kinded}
-use Rattle.model.proofs.Unique.{reference-fits, reference-decides, not-to}
+use Rattle.model.proofs.Unique.{chained, reference-fits, reference-decides, not-to}
 use Rattle.model.proofs.ReadingStates.{throughOf, stateOf, fresh-state, SeesWith, look-sees, closed-state, opened-state}
 
 pub none-not-some : {A : Type 0} {a : A} → _≡_ {A = Option A} none (some a) → ⊥
@@ -109,9 +111,9 @@ module _ (𝒯 : Tables) where
   unfolding rowFits
   row-rule vs n row values e i h = fits-rule 𝒯 vs _ _ (every-true n 0 _ e i (omega arith) (omega arith))
 
-  pub rule-row : (vs : Values) (n : ℕ) (row values : List ℕ) → RowFits 𝒯 (knownOf vs) n row values → rowFits 𝒯 vs n row values ≡ true
+  pub rule-row : (vs : Values) → Chained vs → (n : ℕ) (row values : List ℕ) → RowFits 𝒯 (knownOf vs) n row values → rowFits 𝒯 vs n row values ≡ true
   unfolding rowFits
-  rule-row vs n row values R = true-every n 0 _ (λ i lo hi. rule-fits 𝒯 vs _ _ (R i (omega arith)))
+  rule-row vs Z n row values R = true-every n 0 _ (λ i lo hi. rule-fits 𝒯 vs Z _ _ (R i (omega arith)))
 
   -- ---- Q10, Q11 and Q12
 
@@ -139,16 +141,11 @@ module _ (𝒯 : Tables) where
   access-rule st b c t r h touch =
       record { reference = reference-fits 𝒯 (st .values) (valueIn st b) t r; below = h; touch = touch-rule st (valueIn st b) touch }
 
-  may-touch : (st : Reading) (v : ℕ) → Touchable st v → mayTouch 𝒯 st v ≡ true
-  may-touch st v h = either h (λ q. true-or _ _ (rw q refl)) (λ e. or-of-true _ _ (eq-eqb (st .base) v e))
-
   rule-access : (place : Question → Refusal) (st : Reading) (g b c t : ℕ) (k : ℕ → Outcome Reading) → Tidy st g → Accessible st b c t
       → onRecord 𝒯 place st b c k ≡ k t
-  unfolding onRecord withReference provided
   rule-access place st g b c t k T A =
       let reference : referenceIn 𝒯 st b ≡ To t = reference-decides 𝒯 (st .values) g (T .values) (valueIn st b) t .1 (A .reference) in
-      let touch = may-touch st (valueIn st b) (rule-touch st (valueIn st b) (A .touch)) in
-      rw (reference, lt-ltb c (𝒯 .size t) (A .below), touch) refl
+      record-again 𝒯 place st b c t k reference (A .below) (rule-touch st (valueIn st b) (A .touch))
 
   sees-one : {j v t : ℕ} {s s₁ s₂ : BlockState} {fs fs' : List ℕ} → Sees 𝒯 j v t s fs s₁ → Sees 𝒯 j v t s fs' s₂ → (fs ≡ fs') × (s₁ ≡ s₂)
   sees-one {fs = fs} {fs' = fs'} (again e) (again f) = (Option·some-injective fs fs' (sym e ∙ f), refl)
@@ -236,6 +233,9 @@ module _ (𝒯 : Tables) where
     looked-tidy : (b t : ℕ) → Tidy (looked b t) (suc (suc j))
     looked-tidy b t = look-tidy 𝒯 st (suc j) (valueIn st b) t (omega arith) small (words-eight t) T
 
+    looked-chained : (b t : ℕ) → Chained (looked b t .values)
+    looked-chained b t = chained 𝒯 (looked b t .values) (suc (suc j)) (looked-tidy b t .values)
+
     -- the state after a store, of either kind
     abbrev storedIn : ℕ → ℕ → ℕ → ℕ → Reading
     storedIn a b c t = stored 𝒯 (looked b t) (suc j) (valueIn st b) t c (valueIn st a)
@@ -257,7 +257,7 @@ module _ (𝒯 : Tables) where
         (λ q. subst (λ (s : BlockState). Reads 𝒯 j (stateOf st) (store a b c) s) (sym (closed-in a b c t q))
         (closes A (looked-sees b t touch) (row-rule (looked b t .values) (𝒯 .size t) (𝒯 .words t) _ q)))
         (λ q. subst (λ (s : BlockState). Reads 𝒯 j (stateOf st) (store a b c) s) (sym (opened-in a b c t touch q))
-        (opens A (looked-sees b t touch) (λ R. false≢true (sym q ∙ rule-row (looked b t .values) (𝒯 .size t) (𝒯 .words t) _ R))))
+        (opens A (looked-sees b t touch) (λ R. false≢true (sym q ∙ rule-row (looked b t .values) (looked-chained b t) (𝒯 .size t) (𝒯 .words t) _ R))))
 
     along : {x : Plain} {s s' : BlockState} → s ≡ s' → Reads 𝒯 j (stateOf st) x s → Reads 𝒯 j (stateOf st) x s'
     along {x = x} e R = subst (λ (s : BlockState). Reads 𝒯 j (stateOf st) x s) e R
@@ -344,7 +344,7 @@ module _ (𝒯 : Tables) where
     reads-plain (store a b c) F s' (closes {t = t} {fields = fields} {s' = s₁} A S C) =
         let (f, e) = sees-one (looked-sees b t (touched b c t A)) S in
         let R = subst (ClosesWith a c t) (λ i. (sym f i, sym e i)) C in
-        let q : rowCloses a b c t ≡ true = rule-row (looked b t .values) (𝒯 .size t) (𝒯 .words t) _ R in
+        let q : rowCloses a b c t ≡ true = rule-row (looked b t .values) (looked-chained b t) (𝒯 .size t) (𝒯 .words t) _ R in
         record {
           reading = _;
           passes = rule-access place st (suc j) b c t _ T A;
@@ -390,8 +390,8 @@ module _ (𝒯 : Tables) where
               question = q12;
               is = sym (refused-same {A = Reading} (rw p at q));
               no = another-open (reference-fits 𝒯 (st .values) (valueIn st b) t e) h
-                  (λ n. false≢true (sym p ∙ may-touch st (valueIn st b) (rule-touch st (valueIn st b) (inl n))))
-                  (λ n. false≢true (sym p ∙ may-touch st (valueIn st b) (rule-touch st (valueIn st b) (inr n))));
+                  (λ n. false≢true (sym p ∙ may-touch 𝒯 st (valueIn st b) (rule-touch st (valueIn st b) (inl n))))
+                  (λ n. false≢true (sym p ∙ may-touch 𝒯 st (valueIn st b) (rule-touch st (valueIn st b) (inr n))));
             })
 
         go : (o : Reference) → referenceIn 𝒯 st b ≡ o

@@ -1,6 +1,6 @@
 -- The reading of Check decides what an edge tells.
 use mathlib.Core.Path.{_≡_, refl, sym, ap, fun-ext, subst, _∙_}
-use mathlib.Core.Bool.{true, false, false≢true}
+use mathlib.Core.Bool.{false, false≢true}
 use Prim.Native.Nat.{ℕ, zero, suc, _+_, _≤_, _<_}
 use native.Mathlib.Omega.{arith}
 use lib.Dec.{eqb}
@@ -11,16 +11,19 @@ use Rattle.model.specs.Question.{_and_, pick}
 use Rattle.model.specs.Word.{kindOf, recordOf, firstOf, secondOf, withKind}
 use Rattle.model.specs.Types.{Dep, name, Ty, any, ref, maybe, tagged, present, same, span, depOf, ofKind, typeOf, rename}
 use Rattle.model.specs.Table.{Tables}
-use Rattle.model.specs.Machine.{End, jump, ifEqual, ifLess}
+use Rattle.model.specs.Machine.{End, halt, jump, ifEqual, ifLess}
 use Rattle.model.specs.Rules.{Known}
 use Rattle.model.specs.ReadingRules.{BlockState, holds, NotZero, maybe-to-ref, tagged-to-present, Below, from-to-in, NotBelow, run-to-from}
 use Rattle.model.specs.ReadingRules.{becoming, Becomes, becomes, stays, Taken, jumps, is-equal, is-less, Untaken, not-zero, not-equal, not-less}
-use Rattle.model.specs.Reading.{Values, birthplace, ownConstant, typed, knownEqual, Reading, rekinded, notZero, below, notBelow, taken, untaken}
+use Rattle.model.specs.Values.{Values, birthplace, ownConstant, typed, knownEqual}
+use Rattle.model.specs.Reading.{Reading, learned, rekinded, notZero, below, notBelow, taken, untaken}
 use Rattle.model.specs.Check.{valueIn}
-use Rattle.model.proofs.Logic.{byTest, byEqual, and-true, true-and}
-use Rattle.model.proofs.RulesDecide.{optionOf, knownOf, equal-known, known-equal}
-use Rattle.model.proofs.Tidy.{Tidy}
-use Rattle.model.proofs.Unique.{any-typed}
+use Rattle.model.proofs.Logic.{byTest, byEqual, and-true, true-and, pick-both}
+use Rattle.model.proofs.Lists.{set-every}
+use Rattle.model.proofs.KnownValues.{optionOf, knownOf, any-typed}
+use Rattle.model.proofs.RulesDecide.{Chained, equal-known, known-equal}
+use Rattle.model.proofs.Tidy.{word-same, Tidy}
+use Rattle.model.proofs.Unique.{chained}
 use Rattle.model.proofs.Mean.{kinded}
 use Rattle.model.proofs.ReadingStates.{stateOf}
 
@@ -63,6 +66,73 @@ module _ (σ : ℕ → ℕ) (w : ℕ) where
   span-kind (suc (suc (suc (suc (suc zero))))) r t q d e h = absurd (clash cc)
   span-kind (suc (suc (suc (suc (suc (suc k)))))) r t q d e h = cc
 
+-- ---- chains on the edges
+
+-- a test changes no type
+learned-chained : (vs : Values) (v c : ℕ) → Chained vs → Chained (learned vs v c)
+unfolding typed
+learned-chained vs v c Z = record { joins = Z .joins; near = Z .near }
+
+-- another kind than that of Same makes no Same
+rekinded-chained : (vs : Values) (v k : ℕ) → (k ≡ 5 → ⊥) → Chained vs → Chained (rekinded vs v k)
+unfolding typed
+rekinded-chained vs v k other Z =
+    record {
+      joins = Z .joins;
+      near = λ u w q.
+          set-every (λ j x. (w : ℕ) → rename (λ i. getD (vs .frames) (birthplace j) 0 + i) (typeOf x) ≡ same (name w) → birthplace w ≡ birthplace j)
+          (vs .words) v (withKind k (getD (vs .words) v 0)) 0 (λ j w q. Z .near j w q)
+          (λ w q. absurd (other (let z = word-same _ (withKind k (getD (vs .words) v 0)) (name w) q .0 in omega arith))) u w q;
+    }
+
+module _ (vs : Values) (Z : Chained vs) where
+  not-zero-chained : (v : ℕ) (ty : Ty) → Chained (notZero vs v ty)
+  unfolding notZero
+  not-zero-chained v any = Z
+  not-zero-chained v (ref t) = Z
+  not-zero-chained v (maybe t) = rekinded-chained vs v 1 (λ e. omega arith) Z
+  not-zero-chained v (tagged d) = rekinded-chained vs v 4 (λ e. omega arith) Z
+  not-zero-chained v (present d) = Z
+  not-zero-chained v (same d) = Z
+  not-zero-chained v (span k t d e) = Z
+
+  below-chained : (v w : ℕ) (ty : Ty) → Chained (below vs v w ty)
+  unfolding below
+  below-chained v w any = Z
+  below-chained v w (ref t) = Z
+  below-chained v w (maybe t) = Z
+  below-chained v w (tagged d) = Z
+  below-chained v w (present d) = Z
+  below-chained v w (same d) = Z
+  below-chained v w (span k t d e) =
+      pick-both Chained (eqb k 1 and knownEqual vs (name w) e) _ vs (λ q. rekinded-chained vs v 8 (λ e. omega arith) Z) (λ q. Z)
+
+  not-below-chained : (v w : ℕ) (ty : Ty) → Chained (notBelow vs v w ty)
+  unfolding notBelow
+  not-below-chained v w any = Z
+  not-below-chained v w (ref t) = Z
+  not-below-chained v w (maybe t) = Z
+  not-below-chained v w (tagged d) = Z
+  not-below-chained v w (present d) = Z
+  not-below-chained v w (same d) = Z
+  not-below-chained v w (span k t d e) =
+      pick-both Chained (eqb k 0 and knownEqual vs (name w) d) _ vs (λ q. rekinded-chained vs v 7 (λ e. omega arith) Z) (λ q. Z)
+
+pub taken-chained : (e : End) (st : Reading) → Chained (st .values) → Chained (taken e st)
+unfolding taken
+taken-chained halt st Z = Z
+taken-chained (jump t) st Z = Z
+taken-chained (ifEqual x k t) st Z = learned-chained (st .values) (valueIn st x) k Z
+taken-chained (ifLess x y t) st Z = below-chained (st .values) Z (valueIn st x) (valueIn st y) _
+
+pub untaken-chained : (e : End) (st : Reading) → Chained (st .values) → Chained (untaken e st)
+unfolding untaken
+untaken-chained halt st Z = Z
+untaken-chained (jump t) st Z = Z
+untaken-chained (ifEqual x k t) st Z =
+    pick-both Chained (eqb k 0) _ (st .values) (λ q. not-zero-chained (st .values) Z (valueIn st x) _) (λ q. Z)
+untaken-chained (ifLess x y t) st Z = not-below-chained (st .values) Z (valueIn st x) (valueIn st y) _
+
 -- ---- what the edges make of a value
 
 -- the place of a type's kind among those that an edge tells apart
@@ -75,7 +145,7 @@ kindNumber (present d) = 4
 kindNumber (same d) = 5
 kindNumber (span k t d e) = 6
 
-module _ (𝒯 : Tables) (vs : Values) (v : ℕ) (there : v < length (vs .words)) where
+module _ (𝒯 : Tables) (vs : Values) (Z : Chained vs) (v : ℕ) (there : v < length (vs .words)) where
   abbrev frame : ℕ → ℕ
   frame x = getD (vs .frames) (birthplace v) 0 + x
 
@@ -113,6 +183,13 @@ module _ (𝒯 : Tables) (vs : Values) (v : ℕ) (there : v < length (vs .words)
   become R k x ty h n e r =
       let w : word ≡ 0 → ⊥ = λ z. n (ap kindNumber (sym h ∙ any-typed vs v z)) in
       subst (λ (K : Known). Becomes 𝒯 R (knownOf vs) v K) (sym (rekinded-known k ty w e)) (becomes r)
+
+  -- a span of another rank
+  pub span-known : (q r t : ℕ) (d e : Dep) → typed vs v ≡ span r t d e
+      → knownOf (rekinded vs v (suc (suc (suc (suc (suc (suc q))))))) ≡ becoming 𝒯 (knownOf vs) v (span q t d e)
+  span-known q r t d e h =
+      rekinded-known (suc (suc (suc (suc (suc q))))) (span q t d e) (λ z. clash (let k : any ≡ span r t d e = sym (any-typed vs v z) ∙ h in cc))
+      (span-kind frame word (kindOf word) r t q d e (sym typed-of ∙ h))
 
   -- ---- each test
 
@@ -161,7 +238,7 @@ module _ (𝒯 : Tables) (vs : Values) (v : ℕ) (there : v < length (vs .words)
       no q (from-to-in {t = u} {d = x} {e = y} e E) =
           let kr : k ≡ 1 = cc in
           let de : f ≡ y = cc in
-          false≢true (sym q ∙ true-and _ _ (eq-eqb k 1 kr) (rw de (known-equal 𝒯 vs (name w) y E)))
+          false≢true (sym q ∙ true-and _ _ (eq-eqb k 1 kr) (rw de (known-equal 𝒯 vs Z (name w) y E)))
 
   stays-not-below : (w : ℕ) (x : Ty) → typed vs v ≡ x → (kindNumber x ≡ 6 → ⊥) → Becomes 𝒯 (NotBelow 𝒯 (knownOf vs) w) (knownOf vs) v (knownOf vs)
   stays-not-below w x h m = stays (λ ty n. no n)
@@ -189,7 +266,7 @@ module _ (𝒯 : Tables) (vs : Values) (v : ℕ) (there : v < length (vs .words)
       no q (run-to-from {t = u} {d = x} {e = y} e E) =
           let kr : k ≡ 0 = cc in
           let de : d ≡ x = cc in
-          false≢true (sym q ∙ true-and _ _ (eq-eqb k 0 kr) (rw de (known-equal 𝒯 vs (name w) x E)))
+          false≢true (sym q ∙ true-and _ _ (eq-eqb k 0 kr) (rw de (known-equal 𝒯 vs Z (name w) x E)))
 
 -- ---- a rule tells one thing
 
@@ -216,6 +293,9 @@ module _ (𝒯 : Tables) (st : Reading) (g : ℕ) (T : Tidy st g) (few : g ≤ 3
   there : (r : ℕ) → valueIn st r < length (st .values .words)
   there r = let h = T .registers r in let l = T .values .words in omega arith
 
+  chains : Chained (st .values)
+  chains = chained 𝒯 (st .values) g (T .values)
+
   -- what the reading knows on each edge is what the rules tell
   pub jump-tells : (t : ℕ) → Taken 𝒯 (stateOf st) (jump t) (knownOf (taken (jump t) st))
   unfolding taken
@@ -227,18 +307,18 @@ module _ (𝒯 : Tables) (st : Reading) (g : ℕ) (T : Tidy st g) (few : g ≤ 3
 
   pub less-tells : (x y t : ℕ) → Taken 𝒯 (stateOf st) (ifLess x y t) (knownOf (taken (ifLess x y t) st))
   unfolding taken
-  less-tells x y t = is-less (below-tells 𝒯 (st .values) (valueIn st x) (there x) (valueIn st y) _ refl)
+  less-tells x y t = is-less (below-tells 𝒯 (st .values) chains (valueIn st x) (there x) (valueIn st y) _ refl)
 
   pub unequal-tells : (x k t : ℕ) → Untaken 𝒯 (stateOf st) (ifEqual x k t) (knownOf (untaken (ifEqual x k t) st))
   unfolding untaken
-  unequal-tells x zero t = not-zero (not-zero-tells 𝒯 (st .values) (valueIn st x) (there x) _ refl)
+  unequal-tells x zero t = not-zero (not-zero-tells 𝒯 (st .values) chains (valueIn st x) (there x) _ refl)
   unequal-tells x (suc k) t =
       let d : suc k ≡ 0 → ⊥ = λ (e : suc k ≡ 0). omega arith in
       rw (ne-eqb (suc k) 0 d) (not-equal d)
 
   pub not-less-tells : (x y t : ℕ) → Untaken 𝒯 (stateOf st) (ifLess x y t) (knownOf (untaken (ifLess x y t) st))
   unfolding untaken
-  not-less-tells x y t = not-less (not-below-tells 𝒯 (st .values) (valueIn st x) (there x) (valueIn st y) _ refl)
+  not-less-tells x y t = not-less (not-below-tells 𝒯 (st .values) chains (valueIn st x) (there x) (valueIn st y) _ refl)
 
 -- and nothing else
 pub taken-one : (𝒯 : Tables) (s : BlockState) {e : End} {K L : Known} → Taken 𝒯 s e K → Taken 𝒯 s e L → K ≡ L

@@ -14,10 +14,10 @@ use Rattle.model.specs.Question.{pick}
 use Rattle.model.specs.Types.{Ty, typeOf, rename}
 use Rattle.model.specs.Table.{Tables, fieldOf}
 use Rattle.model.specs.ReadingRules.{made, eightMade, BlockState, knowing, alone, giving, seeing, closing, opening, loading, Sees, again, newly}
-use Rattle.model.specs.Reading.{Values, birthplace, ownConstant, typed, rowFits, Reading, upFrom, born, fresh, isOpen, seen, viewedBefore}
-use Rattle.model.specs.Reading.{viewed, look, stored}
+use Rattle.model.specs.Values.{Values, birthplace, ownConstant, typed}
+use Rattle.model.specs.Reading.{rowFits, Reading, upFrom, born, fresh, isOpen, seen, viewedBefore, viewed, look, stored}
 use Rattle.model.proofs.Logic.{byTest, byEqual, either, pick-true, pick-false, pick-both}
-use Rattle.model.proofs.RulesDecide.{optionOf, knownOf}
+use Rattle.model.proofs.KnownValues.{optionOf, knownOf}
 use Rattle.model.proofs.Tidy.{TidyValues, Tidy, word-here, word-there, typed-here, typed-there, constant-here, constant-there}
 
 -- ---- the state of a reading

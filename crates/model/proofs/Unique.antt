@@ -1,26 +1,27 @@
 -- Inside a block a value has at most one known constant, and the type that Q10 gives is the only one that its base fits.
 use mathlib.Core.Path.{_≡_, refl, sym, ap, _∙_}
-use mathlib.Core.Logic.{_⊎_, inl, inr, _↔_}
-use mathlib.Core.Bool.{Bool, true, false, false≢true}
-use mathlib.Core.Option.{some, Option·some-injective}
+use mathlib.Core.Logic.{_↔_}
+use mathlib.Core.Bool.{false}
 use mathlib.Core.List.{List, [], _∷_}
 use Prim.Native.Nat.{ℕ, zero, suc, _≤_, _<_}
 use native.Mathlib.Omega.{arith}
 use lib.Dec.{ltb, eqb}
 use lib.ListN.{length, getD}
 use borrow.Author.Tests.{eqb-true, eqb-false, ltb-true, lt-ltb}
-use Rattle.model.specs.declared.Reference.{Reference}
 use Rattle.model.specs.declared.Reference.the-variants.{To, Nothing}
-use Rattle.model.specs.Question.{ok}
-use Rattle.model.specs.Types.{Dep, name, con, Ty, any, ref, maybe, tagged, present, same, span, typeOf, rename}
+use Rattle.model.specs.Question.{_and_, ok}
+use Rattle.model.specs.Types.{Dep, Ty, any, ref, maybe, tagged, present, same, span}
 use Rattle.model.specs.Table.{Tables, tablesOf, Routine, routineOf, Code, lastAt}
 use Rattle.model.specs.Machine.{Instruction, plain, end, malformed, formAsk}
-use Rattle.model.specs.Rules.{Constant, constant-itself, by-opcode-1, by-type-same, by-taken-11, KnownTag, Fits, ref-ref, ref-in, ref-present}
-use Rattle.model.specs.Reading.{Values, birthplace, typed, constantsOf, firstTag, referenceOf, Reading}
+use Rattle.model.specs.Rules.{Constant, KnownTag, Fits, ref-ref, ref-in, ref-present}
+use Rattle.model.specs.Values.{Values, typed, constantHeld, chainConstant, told, constantsJoined, constantsOf}
+use Rattle.model.specs.Reading.{firstTag, referenceOf, Reading}
 use Rattle.model.specs.Check.{readInstruction, readingAt, readEnd, noAt}
 use Rattle.model.proofs.Logic.{byTest, either, ask-ok, then-ok, passed-then, ok-same, not-ok, not-true}
-use Rattle.model.proofs.Lists.{Member, first, later}
-use Rattle.model.proofs.RulesDecide.{knownOf, own-is, told-is, constant-known, known-constant}
+use Rattle.model.proofs.Lists.{Member, first, later, member-split}
+use Rattle.model.proofs.KnownValues.{held-is, knownOf}
+use Rattle.model.proofs.Joined.{no-member, constant-joined}
+use Rattle.model.proofs.RulesDecide.{Chained, constant-known, known-constant}
 use Rattle.model.proofs.Tidy.{TidyValues, Tidy, tidy-on, plain-tidy, entry-tidy}
 use Rattle.model.proofs.Rows.{eight-words, words-eight}
 
@@ -29,14 +30,6 @@ to-same e = cc
 
 pub not-to : {t : ℕ} → Nothing ≡ To t → ⊥
 not-to e = let z : _≡_ {A = ℕ} 0 1 = cc in omega arith
-
--- a type word 0 says Any
-pub any-typed : (vs : Values) (v : ℕ) → getD (vs .words) v 0 ≡ 0 → typed vs v ≡ any
-unfolding typed typeOf rename
-any-typed vs v e = rw e refl
-
-any-not-same : (d : Dep) → any ≡ same d → ⊥
-any-not-same d e = let z : _≡_ {A = ℕ} 0 1 = cc in omega arith
 
 ref-not-span : {t k u : ℕ} {d e : Dep} → ref t ≡ span k u d e → ⊥
 ref-not-span q = let z : _≡_ {A = ℕ} 0 1 = cc in omega arith
@@ -56,31 +49,27 @@ span-same q = cc
 present-same : {d e : Dep} → present d ≡ present e → d ≡ e
 present-same q = cc
 
-same-constant : {c d : ℕ} → same (con c) ≡ same (con d) → c ≡ d
-same-constant q = cc
-
 module _ (𝒯 : Tables) (vs : Values) where
   -- ---- one constant
 
   module _ (g : ℕ) (T : TidyValues vs g) where
-    type-or-opcode : (v c d : ℕ) → getD (vs .constants) (birthplace v) 0 ≡ suc c → typed vs v ≡ same (con d) → ⊥
-    type-or-opcode v c d e f = either (T .single v) (λ z. omega arith) (λ z. any-not-same (con d) (sym (any-typed vs v z) ∙ f))
+    pub chained : Chained vs
+    chained = record { joins = T .joins; near = T .near }
 
     -- inside a block no taken opcode 11 has told anything
-    untold : (v c : ℕ) → knownOf vs .tested v ≡ some c → ⊥
-    untold v c e = let h = told-is vs v c e .constant in let z = T .untested in omega arith
+    untold : (x : Dep) → told vs x ≡ false
+    unfolding told _and_
+    untold x = rw (T .untested)
+
+    -- so all that is known equal has one constant at most
+    chain-constant : (x : Dep) (c : ℕ) → Constant 𝒯 (knownOf vs) x c → chainConstant vs x ≡ suc c
+    unfolding constantsJoined
+    chain-constant x c C =
+        let m = constant-joined 𝒯 vs (T .near) x c C in
+        either (member-split c (constantHeld (chainConstant vs x)) [] (rw (untold x) at m)) (λ h. held-is _ c h) (λ h. absurd (no-member c h))
 
     pub one-constant : (x : Dep) (c d : ℕ) → Constant 𝒯 (knownOf vs) x c → Constant 𝒯 (knownOf vs) x d → c ≡ d
-    one-constant (con x) c d constant-itself constant-itself = refl
-    one-constant (name v) c d (by-opcode-1 e) (by-opcode-1 f) = Option·some-injective c d (sym e ∙ f)
-    one-constant (name v) c d (by-opcode-1 e) (by-type-same f) = absurd (type-or-opcode v c d (own-is vs v c e) f)
-    one-constant (name v) c d (by-opcode-1 e) (by-taken-11 f) = absurd (untold v d f)
-    one-constant (name v) c d (by-type-same e) (by-opcode-1 f) = absurd (type-or-opcode v d c (own-is vs v d f) e)
-    one-constant (name v) c d (by-type-same e) (by-type-same f) = same-constant (sym e ∙ f)
-    one-constant (name v) c d (by-type-same e) (by-taken-11 f) = absurd (untold v d f)
-    one-constant (name v) c d (by-taken-11 e) (by-opcode-1 f) = absurd (untold v c e)
-    one-constant (name v) c d (by-taken-11 e) (by-type-same f) = absurd (untold v c e)
-    one-constant (name v) c d (by-taken-11 e) (by-taken-11 f) = absurd (untold v c e)
+    one-constant x c d C D = omega (arith, chain-constant x c C, chain-constant x d D)
 
     one-tag : (d : Dep) (t u : ℕ) → KnownTag 𝒯 (knownOf vs) t d → KnownTag 𝒯 (knownOf vs) u d → t ≡ u
     one-tag d t u K L =
@@ -132,13 +121,13 @@ module _ (𝒯 : Tables) (vs : Values) where
   only-tag k (x ∷ ks) l m h = let e : x ≡ k = h x first in rw (e, lt-ltb k (length (𝒯 .tags)) l)
 
   module _ (g : ℕ) (T : TidyValues vs g) where
-    fits-reference : (v t : ℕ) → Fits 𝒯 (knownOf vs) v (ref t) → referenceOf 𝒯 vs (typed vs v) ≡ To t
+    pub fits-reference : (v t : ℕ) → Fits 𝒯 (knownOf vs) v (ref t) → referenceOf 𝒯 vs (typed vs v) ≡ To t
     unfolding referenceOf
     fits-reference v t (ref-ref e) = rw e
     fits-reference v t (ref-in e) = rw e
     fits-reference v t (ref-present {d = d} e K) =
         rw e
-        (only-tag (K .tag) (constantsOf vs d) (K .stands .listed) (known-constant 𝒯 vs d (K .tag) (K .known))
+        (only-tag (K .tag) (constantsOf vs d) (K .stands .listed) (known-constant 𝒯 vs (chained g T) d (K .tag) (K .known))
         (λ x m. one-constant g T d x (K .tag) (constant-known 𝒯 vs d x m) (K .known))
         ∙ ap To (K .stands .names))
 
@@ -154,7 +143,7 @@ module _ (types tags : List ℕ) (C : Code) where
   abbrev P′ : Routine
   P′ = routineOf C
 
-  instruction-tidy : (b j : ℕ) (x : Instruction) (st st' : Reading) → P′ .long b ≤ 32 → j < P′ .long b → Tidy st (suc j)
+  pub instruction-tidy : (b j : ℕ) (x : Instruction) (st st' : Reading) → P′ .long b ≤ 32 → j < P′ .long b → Tidy st (suc j)
       → readInstruction 𝒯′ P′ (noAt 𝒯′ P′ b j) b (suc j) (lastAt P′ b j) x st ≡ ok st' → Tidy st' (suc (suc j))
   unfolding readInstruction formAsk readEnd
   instruction-tidy b j (plain x) st st' m l T q =

@@ -23,6 +23,9 @@ anyWord = 0
 abbrev pub refWord : ℕ → ℕ
 refWord t = typeWord 1 t 0 0
 
+abbrev pub maybeWord : ℕ → ℕ
+maybeWord t = typeWord 2 t 0 0
+
 abbrev pub taggedWord : ℕ → ℕ
 taggedWord d = typeWord 3 0 d 0
 

@@ -13,8 +13,9 @@ use Rattle.model.specs.Table.{Tables, tablesOf, Code, Routine, routineOf
 unfoldable pub use Rattle.model.specs.Table.{tableQuestions, tablesAsk}
 use Rattle.model.specs.Machine.{Plain, constant, copy, add, subtract, multiply, divide, move, load, store, End, halt, jump, ifEqual, ifLess}
 use Rattle.model.specs.Machine.{Instruction, instructionAt, formAsk}
-use Rattle.model.specs.Reading.{Values, typed, birthplace, rowFits, referenceOf, Reading, entry, putRegister, fresh, movedWord}
-use Rattle.model.specs.Reading.{isOpen, look, loaded, stored, taken, untaken}
+use Rattle.model.specs.Values.{Values, typed, birthplace}
+use Rattle.model.specs.Reading.{rowFits, referenceOf, Reading, entry, putRegister, fresh, movedWord, isOpen, look, loaded, stored, taken}
+use Rattle.model.specs.Reading.{untaken}
 
 -- the value in a register
 abbrev pub valueIn : Reading → ℕ → ℕ

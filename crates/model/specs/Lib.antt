@@ -8,6 +8,7 @@ pub mod Machine
 pub mod CodeIndex
 pub mod Uses
 pub mod Walk
+pub mod Values
 pub mod Rules
 pub mod ReadingRules
 pub mod Reading
@@ -19,3 +20,4 @@ pub mod Exactness
 pub mod Safety
 pub mod Cases
 pub mod Misreadings
+pub mod Chains

@@ -7,7 +7,7 @@ use Rattle.model.specs.Table.{codeOf}
 use Rattle.model.specs.Machine.{ifLess, next, enter, Run, run, ready}
 use Rattle.model.specs.Check.{check}
 use Rattle.model.specs.MemoryCheck.{memoryCheck}
-use Rattle.model.specs.Cases.{typeWord, constantByte, refWord, taggedWord, sameWord, runWord, fromWord, inWord, instruction, haltWord}
+use Rattle.model.specs.Cases.{constantByte, refWord, maybeWord, taggedWord, sameWord, runWord, fromWord, inWord, instruction, haltWord}
 use Rattle.model.specs.Cases.{constantWord, moveWord, loadWord, storeWord, jumpWord, ifEqualWord, ifLessWord, row, verdict, plotTypes}
 use Rattle.model.specs.Cases.{plotTags, plotCheck}
 
@@ -74,7 +74,7 @@ pub record Misreadings : Type 0 where
   -- of r4. But r7 is From: its store closes the record, and the store of r4 opens it again.
   pub closesEarlier : check (spanTypes (fromWord 0 0 1)) [] (codeOf (row 6 0 (refWord 1) 0 0 (inWord 0 5 6) 0 0 0) twoPointers) ≡ verdict 13 0 5
   -- Maybe becomes Ref after a test against a constant that is not 0; the untaken edge is not asked
-  pub otherConstant : plotCheck (row 1 0 (typeWord 2 1 0 0) 0 0 0 0 0 0 ++ row 2 0 (refWord 1) 0 0 0 0 0 0 ++ freeBlock 1)
+  pub otherConstant : plotCheck (row 1 0 (maybeWord 1) 0 0 0 0 0 0 ++ row 2 0 (refWord 1) 0 0 0 0 0 0 ++ freeBlock 1)
       (ifEqualWord 1 5 2 ∷ loadWord 2 1 0 ∷ haltWord ∷ haltWord ∷ []) ≡ verdict 15 0 0
   -- Tagged of a known tag is a reference though it may be 0
   pub taggedBase : plotCheck (row 2 0 (taggedWord (constantByte 1)) 0 0 0 0 0 0) (loadWord 2 1 0 ∷ haltWord ∷ []) ≡ verdict 10 0 0

@@ -1,7 +1,7 @@
--- How a block is read: values, what is known of them, what they fit, loads and stores, the open record, edges.
+-- How a block is read: what values fit, loads and stores, the open record, edges.
 use mathlib.Core.Bool.{Bool, true, false}
-use mathlib.Core.List.{List, [], _∷_, _++_}
-use Prim.Native.Nat.{ℕ, zero, suc, _+_, _*_, _/_, _%_}
+use mathlib.Core.List.{List, [], _∷_}
+use Prim.Native.Nat.{ℕ, zero, suc, _*_, _%_}
 use lib.Dec.{ltb, leb, eqb}
 use lib.ListN.{length, getD, set, replicate}
 use lib.IntN.{ℤ, pos, negsuc}
@@ -9,90 +9,10 @@ use Rattle.model.specs.declared.Reference.{Reference}
 use Rattle.model.specs.declared.Reference.the-variants.{To, Nothing}
 use Rattle.model.specs.Question.{_and_, _or_, pick, every}
 use Rattle.model.specs.Word.{withKind, signed}
-use Rattle.model.specs.Types.{Dep, name, con, Ty, any, ref, maybe, tagged, present, same, span, typeOf, rename}
+use Rattle.model.specs.Types.{Dep, name, Ty, any, ref, maybe, tagged, present, same, span, typeOf, rename}
+use Rattle.model.specs.Values.{Values, joined, typed, some, constantsOf, knownEqual}
 use Rattle.model.specs.Table.{Tables}
 use Rattle.model.specs.Machine.{End, halt, jump, ifEqual, ifLess}
-
--- ---- values
-
--- A value has a name. Names 0 to 7 are the registers' values at entry. The instruction at offset j of the block has the eight
--- names from 8 * suc j on: suc j is their birthplace. Birthplace 0 is the entry. A value keeps its type for good. Its type word
--- is read with the value frame + i for the name i, where frame belongs to the birthplace. A constant c is held as suc c, so that
--- 0 is none. After a taken opcode 11 the value tested has one more constant.
-pub record Values : Type 0 where
-  pub words : List ℕ
-  pub frames : List ℕ
-  pub constants : List ℕ
-  pub tested : ℕ
-  pub equal : ℕ
-
-abbrev pub birthplace : ℕ → ℕ
-birthplace v = v / 8
-
--- the type of a value, over values
-unfoldable pub typed : Values → ℕ → Ty
-typed vs v = rename (λ i. getD (vs .frames) (birthplace v) 0 + i) (typeOf (getD (vs .words) v 0))
-
--- ---- known constants
-
-abbrev pub constantHeld : ℕ → List ℕ
-constantHeld zero = []
-constantHeld (suc c) = c ∷ []
-
--- 01: 'A value of type Same with a constant has that known constant'
-abbrev pub sameConstant : Ty → List ℕ
-sameConstant any = []
-sameConstant (ref t) = []
-sameConstant (maybe t) = []
-sameConstant (tagged d) = []
-sameConstant (present d) = []
-sameConstant (same (name v)) = []
-sameConstant (same (con c)) = c ∷ []
-sameConstant (span k t d e) = []
-
--- 01: 'opcode 1 gives a value with known constant c, type Any'
-abbrev pub ownConstant : Values → ℕ → ℕ
-ownConstant vs v = pick (eqb (getD (vs .words) v 0) 0) (getD (vs .constants) (birthplace v) 0) 0
-
--- 01: 'Opcode 11 taken: ra is known to be the constant'
-unfoldable pub constantsOf : Values → Dep → List ℕ
-constantsOf vs (name v) =
-    constantHeld (ownConstant vs v) ++ sameConstant (typed vs v) ++ constantHeld (pick (eqb v (vs .tested)) (vs .equal) 0)
-constantsOf vs (con c) = c ∷ []
-
--- some constant passes
-unfoldable pub some : (ℕ → Bool) → List ℕ → Bool
-some f [] = false
-some f (c ∷ cs) = f c or some f cs
-
--- ---- known equal
-
-unfoldable pub sameDep : Dep → Dep → Bool
-sameDep (name v) (name w) = eqb v w
-sameDep (name v) (con c) = false
-sameDep (con c) (name w) = false
-sameDep (con c) (con d) = eqb c d
-
-unfoldable pub isSame : Ty → Dep → Bool
-isSame any y = false
-isSame (ref t) y = false
-isSame (maybe t) y = false
-isSame (tagged d) y = false
-isSame (present d) y = false
-isSame (same d) y = sameDep d y
-isSame (span k t d e) y = false
-
-unfoldable pub saysSame : Values → Dep → Dep → Bool
-saysSame vs (name v) y = isSame (typed vs v) y
-saysSame vs (con c) y = false
-
--- 01: 'Two values are known equal if they are one value, have the same known constant, or one has type Same of the other'
-unfoldable pub knownEqual : Values → Dep → Dep → Bool
-knownEqual vs x y =
-    sameDep x y
-    or some (λ c. some (eqb c) (constantsOf vs y)) (constantsOf vs x)
-    or saysSame vs x y
-    or saysSame vs y x
 
 -- ---- fits
 
@@ -221,7 +141,14 @@ upFrom i (suc n) = i ∷ upFrom (suc i) n
 unfoldable pub entry : List ℕ → Reading
 entry annotation =
     record {
-      values = record { words = laidAt (zeros 256) 0 annotation; frames = zeros 32; constants = zeros 32; tested = 0; equal = 0 };
+      values = record {
+        words = laidAt (zeros 256) 0 annotation;
+        frames = zeros 32;
+        constants = zeros 32;
+        tested = 0;
+        equal = 0;
+        knowledge = joined;
+      };
       registers = upFrom 0 8;
       views = zeros 256;
       since = 0;
@@ -238,6 +165,7 @@ born vs g row frame constant =
       constants = set (vs .constants) g constant;
       tested = vs .tested;
       equal = vs .equal;
+      knowledge = vs .knowledge;
     }
 
 abbrev pub putRegister : Reading → ℕ → ℕ → Reading
@@ -359,7 +287,15 @@ module _ (𝒯 : Tables) where
 
 -- the value ra has a constant
 abbrev pub learned : Values → ℕ → ℕ → Values
-learned vs v c = record { words = vs .words; frames = vs .frames; constants = vs .constants; tested = v; equal = suc c }
+learned vs v c =
+    record {
+      words = vs .words;
+      frames = vs .frames;
+      constants = vs .constants;
+      tested = v;
+      equal = suc c;
+      knowledge = vs .knowledge;
+    }
 
 -- the value ra has another kind
 abbrev pub rekinded : Values → ℕ → ℕ → Values
@@ -370,6 +306,7 @@ rekinded vs v kind =
       constants = vs .constants;
       tested = vs .tested;
       equal = vs .equal;
+      knowledge = vs .knowledge;
     }
 
 -- 01: 'Not taken with constant 0: Maybe becomes Ref, Tagged becomes Present'

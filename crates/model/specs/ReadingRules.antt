@@ -1,4 +1,4 @@
--- 'How a block is read' of 01, with card 2 of 02, by rules: values, what is known of them, the registers, the fields seen, the open record.
+-- 'How a block is read' of 01, with cards 2 and 13 of 02, by rules: values, what is known of them, the registers, the fields seen, the open record.
 -- One rule for each sentence, in 01's order. Nothing of how the reading is represented: the tests of Check decide these rules.
 use mathlib.Core.Path.{_≡_}
 use mathlib.Core.Logic.{_⊎_}

@@ -13,7 +13,8 @@ use Rattle.model.specs.Word.{kindOf, recordOf, opcodeOf, withKind, signed}
 use Rattle.model.specs.Types.{typeOf}
 use Rattle.model.specs.Table.{Tables, tablesOf, headOf}
 use Rattle.model.specs.Machine.{constant, copy, move}
-use Rattle.model.specs.Reading.{birthplace, Reading, laidAt, born, putRegister, fresh, onSpan, moves, isSize, walks, movedWord, powerOfTwo}
+use Rattle.model.specs.Values.{birthplace}
+use Rattle.model.specs.Reading.{Reading, laidAt, born, putRegister, fresh, onSpan, moves, isSize, walks, movedWord, powerOfTwo}
 use Rattle.model.specs.Check.{valueIn, readPlain}
 use Rattle.model.proofs.Logic.{byEqual, byLess}
 use Rattle.instruction.specs.Form.{plainOf}

@@ -43,6 +43,7 @@ pub fn rows() -> Vec<Row> {
     ];
     rows.extend(opens());
     rows.extend(edges());
+    rows.push(chained());
     rows.push(Row::new("check, loads, refused at the last instruction", "instruction", Call::Check, move |part| {
         let n = 64 * part;
         let mut case = Case { types: types.concat(), tags: vec![0, 1], ..routine(n, &annotation, &loads, onward) };
@@ -91,4 +92,23 @@ fn edges() -> [Row; 2] {
             })
         },
     )
+}
+
+/// Blocks of a test with two edges, whose registers are all known equal through a chain of Same, by turns through one of two: neither has a
+/// link of the other, so an edge asks for seven equalities that hold through the chain alone. The plain implementation joins eight values when
+/// they are made, whether they are asked for or not; the proved one follows their links when it is asked, here some fifty times for an edge.
+fn chained() -> Row {
+    let links = |order: [u32; 8]| {
+        let mut annotation = [0; 8];
+        order.windows(2).for_each(|link| annotation[link[0] as usize] = ty(SAME, 0, link[1], 0));
+        annotation
+    };
+    let (even, odd) = (links([0, 1, 2, 3, 4, 5, 6, 7]), links([0, 2, 4, 6, 1, 3, 5, 7]));
+    let row = Row::new("check, edges, registers chained by Same", "edge", Call::Check, move |part| {
+        let test = |b: usize, last: bool| if last { 0 } else { ins(12, 2, 3, b as u32 ^ 1) };
+        let mut case = Case { types: any(), ..routine(64 * part, &even, &[], test) };
+        case.blocks.chunks_exact_mut(18).for_each(|two| two[10..].copy_from_slice(&odd));
+        Input { units: 2 * (64 * part - 1), case, answer: (0, 0, 0) }
+    });
+    Row { limit: 4.0, ..row }
 }

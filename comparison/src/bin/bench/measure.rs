@@ -8,9 +8,8 @@ use std::hint::black_box;
 use std::time::Instant;
 
 const ROUNDS: usize = 200;
-/// How often the guard measures a row that is over its limit, and the limit: proved to plain.
+/// How often the guard measures a row that is over its limit.
 const PASSES: usize = 5;
-const LIMIT: f64 = 1.2;
 
 type Side = fn(Call, &Case, &mut [u32]) -> RunAnswer;
 
@@ -126,7 +125,7 @@ fn summary(what: &str, mut lines: Lines) {
     );
 }
 
-/// Measures the rows of check and run at full size up to five times, and drops a row once it took at most 1.2 of the plain one's time:
+/// Measures the rows of check and run at full size up to five times, and drops a row once it took at most its limit of the plain one's time:
 /// noise of the machine does not come back five times, a lost shape does. Prints the rows that are left; true if there is none.
 pub fn guard(rows: Vec<Row>) -> bool {
     let mut left: Vec<(Row, Vec<f64>)> =
@@ -136,11 +135,11 @@ pub fn guard(rows: Vec<Row>) -> bool {
             let times = times(row, &[(row.make)(4)]);
             ratios.push(times[0][0] / times[0][1]);
         }
-        left.retain(|(_, ratios)| ratios.last().is_some_and(|&ratio| ratio > LIMIT));
+        left.retain(|(row, ratios)| ratios.last().is_some_and(|&ratio| ratio > row.limit));
     }
     for (row, ratios) in &left {
         let ratios: String = ratios.iter().map(|ratio| format!(" {ratio:.2}")).collect();
-        println!("{}: of plain{ratios}, wanted at most {LIMIT} in one of {PASSES}", row.name);
+        println!("{}: of plain{ratios}, wanted at most {} in one of {PASSES}", row.name, row.limit);
     }
     left.is_empty()
 }

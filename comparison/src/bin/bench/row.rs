@@ -31,17 +31,22 @@ pub struct Input {
     pub answer: (u32, u32, u32),
 }
 
+/// How much of the plain implementation's time a row may take where it says nothing else.
+const LIMIT: f64 = 1.2;
+
 /// A call over inputs of three sizes; `make` gets 1, 2 and 4.
 pub struct Row {
     pub name: String,
     pub unit: &'static str,
     pub which: Call,
+    /// what the guard allows, proved to plain
+    pub limit: f64,
     pub make: Box<dyn Fn(usize) -> Input>,
 }
 
 impl Row {
     pub fn new(name: &str, unit: &'static str, which: Call, make: impl Fn(usize) -> Input + 'static) -> Row {
-        Row { name: name.to_string(), unit, which, make: Box::new(make) }
+        Row { name: name.to_string(), unit, which, limit: LIMIT, make: Box::new(make) }
     }
 }
 

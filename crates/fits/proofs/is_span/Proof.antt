@@ -11,7 +11,8 @@ use borrow.Author.Tests.{eq-eqb, ne-eqb}
 use Rattle.model.specs.Question.{_and_}
 use Rattle.model.specs.Word.{recordOf}
 use Rattle.model.specs.Table.{tablesOf}
-use Rattle.model.specs.Reading.{Values, fits}
+use Rattle.model.specs.Values.{Values}
+use Rattle.model.specs.Reading.{fits}
 use Rattle.table.proofs.Questions.{test-false, test-true}
 use Rattle.known.specs.Numbers.{valuesOf}
 use Rattle.fits.specs.Fits.{meant}

@@ -1,5 +1,4 @@
 -- `fits::refers_by` meets its contract.
-use mathlib.Core.Path.{refl}
 use native.Mathlib.Omega.{arith}
 use Rattle.fits.proofs.Answers.{refers-ref, refers-in, refers-other, refers-present}
 use borrow.Author.Needs.{needs}

@@ -45,7 +45,7 @@ returns-4 : tie.Need-returns-4
 returns-4 c =
     let y = c .before in
     λ types. fits-same _ _ _ _ (names (kind y)) _ (kind y .kind .ensures .0) _ _ (y .before .first-dependency .ensures .0) (y .named .ensures)
-    (omega arith) _ refl (omega arith) _ (equal-one _ _ _ (omega arith))
+    (omega arith) _ refl (omega arith) _ (equal-one _ _ _ _ _ _ _ (omega arith))
 
 joined-requires : tie.Need-joined-requires
 joined-requires c κs = search needs

@@ -1,54 +1,57 @@
 -- `known::joined` meets its contract.
-use mathlib.Core.Path.{_≡_, sym, _∙_}
-use mathlib.Core.Bool.{false}
 use native.Mathlib.Omega.{arith}
-use denote.Ref.{now}
-use Rattle.model.specs.Reading.{Values}
-use Rattle.known.specs.Numbers.{valuesOf, depAt, sharedConstant}
-use Rattle.known.proofs.Answers.{equal-shared, equal-left, equal-right}
+use Rattle.known.proofs.Answers.{equal-untested, alike-constant}
 use borrow.Author.Needs.{needs}
 use Rattle.known.proofs.joined.Statement.{statement}
 use Rattle.known.proofs.joined.Tie as tie
 
--- past the constants: they are not shared
-abbrev start : tie.Else1 → tie.Start
-start c = c .before .before
-
-abbrev values : tie.Start → Values
-values s =
-    valuesOf (now (s .args .words)) (now (s .args .frames)) (now (s .args .constants)) (s .args .tested) (s .args .equal)
-
-unshared : (c : tie.Else1) → sharedConstant (values (start c)) (depAt (start c .args .x)) (depAt (start c .args .y)) ≡ false
-unshared c = sym (c .before .share-constant .ensures) ∙ c .if1 .left
-
-share-constant-requires : tie.Need-share-constant-requires
-share-constant-requires c κs = search needs
+joined-through-requires : tie.Need-joined-through-requires
+joined-through-requires c κs = search needs
 
 returns : tie.Need-returns
-returns c = equal-shared _ _ _ (λ h. omega arith) (sym (c .before .share-constant .ensures) ∙ c .if1 .taken)
+returns c = search needs
 
-says-same-requires : tie.Need-says-same-requires
-says-same-requires c κs = search needs
+own-requires : tie.Need-own-requires
+own-requires c κs = search needs
+
+joined-through-requires-2 : tie.Need-joined-through-requires-2
+joined-through-requires-2 c κs = search needs
 
 returns-2 : tie.Need-returns-2
-returns-2 c = equal-left _ _ _ (λ h. omega arith) (unshared (c .before .before)) (sym (c .before .says-same .ensures _ _ _) ∙ c .if2 .taken)
+returns-2 c = search needs
 
-says-same-requires-2 : tie.Need-says-same-requires-2
-says-same-requires-2 c κs = search needs
+own-requires-2 : tie.Need-own-requires-2
+own-requires-2 c κs = search needs
+
+joined-through-requires-3 : tie.Need-joined-through-requires-3
+joined-through-requires-3 c κs = search needs
 
 returns-3 : tie.Need-returns-3
-returns-3 c =
-    let past = c .before in
-    equal-right _ _ _ (λ h. omega arith) (unshared (past .before .before)) (sym (past .before .says-same .ensures _ _ _) ∙ past .if2 .left) _
-    (c .says-same2 .ensures _ _ _)
+returns-3 c = search needs
+
+one-constant-requires : tie.Need-one-constant-requires
+one-constant-requires c κs = search needs
+
+returns-4 : tie.Need-returns-4
+returns-4 c =
+    let y = c .before in
+    let x = y .before .before in
+    let (kx, rx) = x .before .own .ensures in
+    let (ky, ry) = y .before .own2 .ensures in
+    equal-untested _ _ _ _ _ _ _ (omega arith) _
+    (alike-constant _ _ _ _ _ (rx (x .if2 .left) _ _) (ry (y .if3 .left) _ _) (λ h. omega arith) _ _ (kx _ _) (ky _ _) _ (c .one-constant .ensures))
 
 pub joined-spec : {M : Type 1} → statement M
 joined-spec =
     tie.close
     (tie.spec
-    share-constant-requires
+    joined-through-requires
     returns
-    says-same-requires
+    own-requires
+    joined-through-requires-2
     returns-2
-    says-same-requires-2
-    returns-3)
+    own-requires-2
+    joined-through-requires-3
+    returns-3
+    one-constant-requires
+    returns-4)

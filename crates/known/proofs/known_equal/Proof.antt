@@ -6,7 +6,7 @@ use Rattle.known.proofs.known_equal.Statement.{statement}
 use Rattle.known.proofs.known_equal.Tie as tie
 
 returns : tie.Need-returns
-returns c = equal-one _ _ _ (omega arith)
+returns c = equal-one _ _ _ _ _ _ _ (omega arith)
 
 joined-requires : tie.Need-joined-requires
 joined-requires c κs = search needs
@@ -15,9 +15,4 @@ returns-2 : tie.Need-returns-2
 returns-2 c = search needs
 
 pub known-equal-spec : {M : Type 1} → statement M
-known-equal-spec =
-    tie.close
-    (tie.spec
-    returns
-    joined-requires
-    returns-2)
+known-equal-spec = tie.close (tie.spec returns joined-requires returns-2)

@@ -1,54 +1,43 @@
 -- `known::known_tag` meets its contract.
-use mathlib.Core.Path.{sym, _∙_}
-use mathlib.Core.Bool.{Bool}
-use mathlib.Core.List.{List}
-use Prim.Native.Nat.{ℕ}
-use denote.Ref.{now}
-use Rattle.model.specs.Table.{tablesOf}
-use Rattle.known.specs.Numbers.{servesAsTag}
-use Rattle.known.proofs.Answers.{known-own, known-tested}
+use native.Mathlib.Omega.{arith}
+use Rattle.known.proofs.Answers.{constant-root, held-passes, known-untested}
 use borrow.Author.Needs.{needs}
 use Rattle.known.proofs.known_tag.Statement.{statement}
 use Rattle.known.proofs.known_tag.Tie as tie
 
--- the test that a constant has to pass
-abbrev serves : List ℕ → tie.After-constant-of → ℕ → Bool
-serves types c =
-    servesAsTag (c .before .before .args .beyond) (tablesOf types (now (c .before .before .args .tags))) (c .before .before .args .t)
+tag-through-requires : tie.Need-tag-through-requires
+tag-through-requires c κs = search needs
 
-constant-of-requires : tie.Need-constant-of-requires
-constant-of-requires c κs = search needs
+returns : tie.Need-returns
+returns c = search needs
+
+own-requires : tie.Need-own-requires
+own-requires c κs = search needs
+
+tag-through-requires-2 : tie.Need-tag-through-requires-2
+tag-through-requires-2 c κs = search needs
+
+returns-2 : tie.Need-returns-2
+returns-2 c = search needs
 
 is-tag-requires : tie.Need-is-tag-requires
 is-tag-requires c κs = search needs
 
-returns : tie.Need-returns
-returns c =
-    let own = c .before .before in
-    λ types. known-own _ _ _ _ _ _ (own .constant-of .result) (own .constant-of .ensures) (serves types own)
-    (sym (c .before .is-tag .ensures types) ∙ c .if1 .taken)
-
-tested-constant-requires : tie.Need-tested-constant-requires
-tested-constant-requires c κs = search needs
-
-is-tag-requires-2 : tie.Need-is-tag-requires-2
-is-tag-requires-2 c κs = search needs
-
-returns-2 : tie.Need-returns-2
-returns-2 c =
-    let tested = c .before in
-    let past = tested .before in
-    let own = past .before .before in
-    λ types. known-tested _ _ _ _ _ _ (own .constant-of .result) (own .constant-of .ensures) (serves types own)
-    (sym (past .before .is-tag .ensures types) ∙ past .if1 .left) _ (tested .tested-constant .ensures) _ (c .is-tag2 .ensures types)
+returns-3 : tie.Need-returns-3
+returns-3 c =
+    let x = c .before in
+    let (kx, rx) = x .before .own .ensures in
+    λ types. known-untested _ _ _ _ _ _ _ (omega arith) _
+    (held-passes _ _ _ (constant-root _ _ _ (rx (x .if2 .left) _ _) _ (kx _ _)) _ _ (c .is-tag .ensures types))
 
 pub known-tag-spec : {M : Type 1} → statement M
 known-tag-spec =
     tie.close
     (tie.spec
-    constant-of-requires
-    is-tag-requires
+    tag-through-requires
     returns
-    tested-constant-requires
-    is-tag-requires-2
-    returns-2)
+    own-requires
+    tag-through-requires-2
+    returns-2
+    is-tag-requires
+    returns-3)

@@ -1,34 +1,40 @@
 -- `known::known_zero` meets its contract.
 use native.Mathlib.Omega.{arith}
-use Rattle.model.specs.Table.{tablesOf}
-use Rattle.known.proofs.Answers.{zero-own, zero-tested}
+use Rattle.known.proofs.Answers.{constant-root, held-passes, known-untested, zero-known, zero-held}
 use borrow.Author.Needs.{needs}
 use Rattle.known.proofs.known_zero.Statement.{statement}
 use Rattle.known.proofs.known_zero.Tie as tie
 
-constant-of-requires : tie.Need-constant-of-requires
-constant-of-requires c κs = search needs
+zero-through-requires : tie.Need-zero-through-requires
+zero-through-requires c κs = search needs
 
 returns : tie.Need-returns
-returns c =
-    let own = c .before in
-    λ types tags. zero-own _ _ _ _ _ _ (own .constant-of .result) (own .constant-of .ensures) (omega arith) (tablesOf types tags)
-    (omega arith)
+returns c = search needs
 
-tested-constant-requires : tie.Need-tested-constant-requires
-tested-constant-requires c κs = search needs
+own-requires : tie.Need-own-requires
+own-requires c κs = search needs
+
+zero-through-requires-2 : tie.Need-zero-through-requires-2
+zero-through-requires-2 c κs = search needs
 
 returns-2 : tie.Need-returns-2
-returns-2 c =
-    let own = c .before .before in
-    λ types tags. zero-tested _ _ _ _ _ _ (own .constant-of .result) (own .constant-of .ensures) (omega arith) (tablesOf types tags)
-    (λ h. omega arith) _ (c .tested-constant .ensures)
+returns-2 c = search needs
+
+returns-3 : tie.Need-returns-3
+returns-3 c =
+    let x = c .before in
+    let (kx, rx) = x .before .own .ensures in
+    λ types tags. zero-known _ _ _ (omega arith) _
+    (known-untested _ _ _ _ _ _ _ (omega arith) _
+    (held-passes _ _ _ (constant-root _ _ _ (rx (x .if2 .left) _ _) _ (kx _ _)) _ _ (zero-held (x .before .own .result .constant))))
 
 pub known-zero-spec : {M : Type 1} → statement M
 known-zero-spec =
     tie.close
     (tie.spec
-    constant-of-requires
+    zero-through-requires
     returns
-    tested-constant-requires
-    returns-2)
+    own-requires
+    zero-through-requires-2
+    returns-2
+    returns-3)
