@@ -38,7 +38,7 @@ no-member c = elim [ ]
 any-not-same : (d : Dep) → any ≡ same d → ⊥
 any-not-same d e = let z : _≡_ {A = ℕ} 0 1 = cc in omega arith
 
-same-held : (ty : Ty) (c : ℕ) → sameHeld ty ≡ suc c → ty ≡ same (con c)
+pub same-held : (ty : Ty) (c : ℕ) → sameHeld ty ≡ suc c → ty ≡ same (con c)
 same-held any c e = absurd (omega arith)
 same-held (ref t) c e = absurd (omega arith)
 same-held (maybe t) c e = absurd (omega arith)

@@ -48,16 +48,16 @@ some f (c ∷ cs) = f c or some f cs
 abbrev pub ownConstant : Values → ℕ → ℕ
 ownConstant vs v = pick (eqb (getD (vs .words) v 0) 0) (getD (vs .constants) (birthplace v) 0) 0
 
--- 01: 'A value of type Same with a constant has that known constant'
-abbrev pub sameConstant : Ty → List ℕ
-sameConstant any = []
-sameConstant (ref t) = []
-sameConstant (maybe t) = []
-sameConstant (tagged d) = []
-sameConstant (present d) = []
-sameConstant (same (name v)) = []
-sameConstant (same (con c)) = c ∷ []
-sameConstant (span k t d e) = []
+-- 01: 'A value of type Same with a constant has that known constant', held
+abbrev pub sameHeld : Ty → ℕ
+sameHeld any = 0
+sameHeld (ref t) = 0
+sameHeld (maybe t) = 0
+sameHeld (tagged d) = 0
+sameHeld (present d) = 0
+sameHeld (same (name v)) = 0
+sameHeld (same (con c)) = suc c
+sameHeld (span k t d e) = 0
 
 unfoldable pub sameDep : Dep → Dep → Bool
 sameDep (name v) (name w) = eqb v w
@@ -102,17 +102,6 @@ abbrev pub rootOf : Values → Dep → Dep
 rootOf vs (name v) = name (root vs v)
 rootOf vs (con c) = con c
 
--- the constant of a type Same with a constant, held
-abbrev pub sameHeld : Ty → ℕ
-sameHeld any = 0
-sameHeld (ref t) = 0
-sameHeld (maybe t) = 0
-sameHeld (tagged d) = 0
-sameHeld (present d) = 0
-sameHeld (same (name v)) = 0
-sameHeld (same (con c)) = suc c
-sameHeld (span k t d e) = 0
-
 -- the constant that a value has by opcode 1 or by its own type, held
 abbrev pub heldAt : Values → Dep → ℕ
 heldAt vs (name v) = pick (eqb (getD (vs .words) v 0) 0) (getD (vs .constants) (birthplace v) 0) (sameHeld (typed vs v))
@@ -149,7 +138,7 @@ equalJoined vs x y = alike vs x y or (told vs x and told vs y)
 -- 01: 'Opcode 11 taken: ra is known to be the constant'
 unfoldable pub constantsApart : Values → Dep → List ℕ
 constantsApart vs (name v) =
-    constantHeld (ownConstant vs v) ++ sameConstant (typed vs v) ++ constantHeld (pick (eqb v (vs .tested)) (vs .equal) 0)
+    constantHeld (ownConstant vs v) ++ constantHeld (sameHeld (typed vs v)) ++ constantHeld (pick (eqb v (vs .tested)) (vs .equal) 0)
 constantsApart vs (con c) = c ∷ []
 
 unfoldable pub isSame : Ty → Dep → Bool
