@@ -60,7 +60,7 @@ extern "C" {
 /* The version of this header, and of the archive that it comes with. */
 #define RAMDULSI_VERSION "0.4.0"
 #define RAMDULSI_VERSION_MAJOR 0
-#define RAMDULSI_VERSION_MINOR 3
+#define RAMDULSI_VERSION_MINOR 4
 #define RAMDULSI_VERSION_PATCH 0
 
 /* Bytes of stack that a thread needs for ramdulsi_check and ramdulsi_run, and for ramdulsi_memory_check and ramdulsi_entry_check, which
