@@ -17,8 +17,9 @@ use Rattle.model.specs.Values.{toldConstants, constantsJoined, equalJoined, con
 use Rattle.model.specs.Reading.{tagOf, beyond, knownZero, firstTag}
 use Rattle.model.specs.declared.Reference.the-variants.{To, Nothing}
 use Rattle.model.proofs.Logic.{byTest, or-of-true}
+use Rattle.model.proofs.Joined.{dep-same}
 use Rattle.known.specs.Numbers.{valuesOf, depAt, servesAsTag}
-use Rattle.known.proofs.Numbers.{dep-name, dep-constant, same-numbers, same-itself, some-both, some-none, some-one, or-false, held-is}
+use Rattle.known.proofs.Numbers.{dep-name, dep-constant, same-numbers, some-both, some-none, some-one, or-false, held-is}
 use Rattle.known.proofs.Numbers.{type-any, type-ref, type-maybe, type-tagged, type-present, type-same, type-span, byKind}
 
 -- ---- known constants
@@ -96,7 +97,7 @@ module _ (words frames constants : List ℕ) (tested equal x y : ℕ) where
 
   pub equal-one : x ≡ y → true ≡ equal-xy
   unfolding knownEqual equalJoined alike _or_
-  equal-one e = rw (e, same-itself (rootOf vs (depAt y)))
+  equal-one e = rw (e, dep-same (rootOf vs (depAt y)))
 
   pub equal-alike : alike vs (depAt x) (depAt y) ≡ true → true ≡ equal-xy
   unfolding knownEqual equalJoined _or_

@@ -9,7 +9,7 @@ use lib.ListN.{getD, set}
 use borrow.Author.Tests.{lt-ltb, le-ltb, le-leb, eq-eqb, ne-eqb}
 use Rattle.model.specs.Question.{_and_, _or_}
 use Rattle.model.specs.Word.{kindOf, recordOf, firstOf, secondOf}
-use Rattle.model.specs.Types.{Dep, name, con, depOf, renameDep, any, ref, maybe, tagged, present, same, span, typeOf, rename}
+use Rattle.model.specs.Types.{name, con, depOf, renameDep, any, ref, maybe, tagged, present, same, span, typeOf, rename}
 use Rattle.model.specs.Values.{constantHeld, some, sameDep, oneConstant}
 use Rattle.model.proofs.Logic.{byTest, byEqual, byLess}
 use Rattle.model.proofs.Lists.{map-set}
@@ -72,11 +72,6 @@ same-numbers x y =
     (λ l. rw (dep-constant x h, dep-constant y l)
     (byEqual x y (λ e. rw (eq-eqb x y e, eq-eqb (x - 256) (y - 256) (omega arith)))
     (λ n. rw (ne-eqb x y n, ne-eqb (x - 256) (y - 256) (λ e. n (omega arith)))))))
-
-pub same-itself : (d : Dep) → sameDep d d ≡ true
-unfolding sameDep
-same-itself (name v) = eq-eqb v v refl
-same-itself (con c) = eq-eqb c c refl
 
 -- ---- the type of a word, by its kind
 

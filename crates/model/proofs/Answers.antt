@@ -80,6 +80,7 @@ chains-hold =
       firstOfTwo = (refl, refl);
       secondOfTwo = (refl, refl);
       neitherOfTwo = (refl, refl);
+      tagByEither = (refl, refl);
       fieldsOn = (refl, refl);
       otherRecord = (refl, refl);
       walkOn = (refl, refl);

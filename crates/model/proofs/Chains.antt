@@ -12,7 +12,7 @@ use Rattle.model.specs.declared.Reference.the-variants.{To}
 use Rattle.model.specs.Question.{_and_, _or_, pick, Question, Refusal, Outcome, ok}
 use Rattle.model.specs.Word.{opcodeOf, aOf, bOf, cOf}
 use Rattle.model.specs.Types.{Dep, name, Ty, any, ref, maybe, tagged, present, same, span}
-use Rattle.model.specs.Table.{Tables, tablesOf, Code, Routine, routineOf, headOf, startOf, lastAt}
+use Rattle.model.specs.Table.{Tables, tablesOf, Code, Routine, routineOf, headOf, startOf}
 use Rattle.model.specs.Rules.{Known, Constant, constant-itself, by-opcode-1, by-type-same, by-taken-11, by-equal, Equal, one-value, one-constant}
 use Rattle.model.specs.Rules.{same-of, back, chain, KnownTag, Fits, any-fits, same-equal, ref-ref, ref-in, ref-present, maybe-ref, maybe-zero}
 use Rattle.model.specs.Rules.{maybe-maybe, maybe-tagged, maybe-beyond, tagged-zero, tagged-tagged, tagged-present, tagged-ref, tagged-in}
@@ -39,8 +39,9 @@ use Rattle.model.proofs.Tidy.{Tidy, entry-tidy}
 use Rattle.model.proofs.TableLaws.{sized}
 use Rattle.model.proofs.Exactly.{passed-lengths}
 use Rattle.model.proofs.Inversion.{record-ok, record-again}
-use Rattle.model.proofs.Unique.{chained, reference-fits, fits-reference, instruction-tidy}
-use Rattle.model.proofs.ReadingEdges.{span-known, taken-chained, untaken-chained}
+use Rattle.model.proofs.Unique.{reference-fits, fits-reference, instruction-tidy}
+use Rattle.model.proofs.ReadingBlocks.{asksHere}
+use Rattle.model.proofs.ReadingEdges.{span-known, taken-chained, untaken-chained, there, chains}
 
 -- ---- more is known
 
@@ -214,35 +215,29 @@ module _ (𝒯 : Tables) (vs : Values) (Z : Chained vs) where
         (λ q. let none = eqb-true k 0 (and-true _ _ q .0) in omega arith)
 
 module _ (𝒯 : Tables) (st : Reading) (g : ℕ) (T : Tidy st g) (few : g ≤ 32) where
-  chains : Chained (st .values)
-  chains = chained 𝒯 (st .values) g (T .values)
-
-  there : (r : ℕ) → valueIn st r < length (st .values .words)
-  there r = let h = T .registers r in let l = T .values .words in omega arith
-
   taken-kept : (e : End) → Stronger (knownOf (taken e (readingApart st))) (knownOf (taken e st))
   unfolding taken typed
   taken-kept halt = as-strong _
   taken-kept (jump t) = as-strong _
   taken-kept (ifEqual x k t) = as-strong _
-  taken-kept (ifLess x y t) = below-kept 𝒯 (st .values) chains (valueIn st x) (there x) (valueIn st y) _ refl
+  taken-kept (ifLess x y t) = below-kept 𝒯 (st .values) (chains 𝒯 st g T few) (valueIn st x) (there 𝒯 st g T few x) (valueIn st y) _ refl
 
   untaken-kept : (e : End) → Stronger (knownOf (untaken e (readingApart st))) (knownOf (untaken e st))
   unfolding untaken typed
   untaken-kept halt = as-strong _
   untaken-kept (jump t) = as-strong _
   untaken-kept (ifEqual x k t) =
-      byTest (eqb k 0) (λ q. rw q (not-zero-kept 𝒯 (st .values) chains (valueIn st x) (there x) _)) (λ q. rw q (as-strong _))
-  untaken-kept (ifLess x y t) = not-below-kept 𝒯 (st .values) chains (valueIn st x) (there x) (valueIn st y) _ refl
+      byTest (eqb k 0) (λ q. rw q (not-zero-kept 𝒯 (st .values) (chains 𝒯 st g T few) (valueIn st x) (there 𝒯 st g T few x) _)) (λ q. rw q (as-strong _))
+  untaken-kept (ifLess x y t) = not-below-kept 𝒯 (st .values) (chains 𝒯 st g T few) (valueIn st x) (there 𝒯 st g T few x) (valueIn st y) _ refl
 
   -- ---- the edges of a block's end
 
   module _ (P : Routine) (place : Question → Refusal) where
     on-taken : (e : End) (t : ℕ) → edgeMeets 𝒯 P (readingApart st) (taken e (readingApart st)) t ≡ true → edgeMeets 𝒯 P st (taken e st) t ≡ true
-    on-taken e t m = row-kept 𝒯 _ _ (taken-kept e) (taken-chained e st chains) 8 (P .annotation t) (st .registers) m
+    on-taken e t m = row-kept 𝒯 _ _ (taken-kept e) (taken-chained e st (chains 𝒯 st g T few)) 8 (P .annotation t) (st .registers) m
 
     on-untaken : (e : End) (t : ℕ) → edgeMeets 𝒯 P (readingApart st) (untaken e (readingApart st)) t ≡ true → edgeMeets 𝒯 P st (untaken e st) t ≡ true
-    on-untaken e t m = row-kept 𝒯 _ _ (untaken-kept e) (untaken-chained e st chains) 8 (P .annotation t) (st .registers) m
+    on-untaken e t m = row-kept 𝒯 _ _ (untaken-kept e) (untaken-chained e st (chains 𝒯 st g T few)) 8 (P .annotation t) (st .registers) m
 
     edges-kept : (b : ℕ) (e : End) → readEdges 𝒯 P place b e (readingApart st) ≡ ok tt → readEdges 𝒯 P place b e st ≡ ok tt
     unfolding readEdges
@@ -323,11 +318,8 @@ module _ (types tags : List ℕ) (C : Code) where
   abbrev P′ : Routine
   P′ = routineOf C
 
-  abbrev asks : ℕ → ℕ → Instruction → Reading → Outcome Reading
-  asks b j x st = readInstruction 𝒯′ P′ (noAt 𝒯′ P′ b j) b (suc j) (lastAt P′ b j) x st
-
   instruction-kept : (b j : ℕ) (x : Instruction) (st st' : Reading) → suc j ≤ 32 → Unstored x → Tidy st (suc j)
-      → asks b j x (readingApart st) ≡ ok st' → Follows (asks b j x st) st'
+      → asksHere types tags C b j x (readingApart st) ≡ ok st' → Follows (asksHere types tags C b j x st) st'
   unfolding readInstruction formAsk readEnd
   instruction-kept b j (plain x) st st' l n T q =
       let (p, q₁) = ask-ok _ _ _ q in

@@ -24,8 +24,8 @@ use Rattle.model.specs.ReadingRules.{still-open, no-edge, TypeGiven, Dis
 use Rattle.model.specs.Values.{Values, birthplace, ownConstant, typed}
 use Rattle.model.specs.Reading.{Reading, upFrom, entry, isOpen, taken, untaken}
 use Rattle.model.specs.Check.{valueIn, referenceIn, readPlain, edgeMeets, readEdges, readEnd, noAt, readInstruction, readAt, readingAt, judge}
-use Rattle.model.proofs.Logic.{byTest, byEqual, byLess, either, ask-ok, ok-ask, then-ok, ok-then, passed-then, then-refused, ok-same, not-ok, not-true}
-use Rattle.model.proofs.Logic.{refused-same, pick-both, verdict-ok, ok-verdict, verdict-refused}
+use Rattle.model.proofs.Logic.{byTest, byEqual, byLess, ask-ok, ok-ask, then-ok, ok-then, passed-then, ok-same, not-ok, not-true}
+use Rattle.model.proofs.Logic.{refused-same, pick-both}
 use Rattle.model.proofs.Lists.{zeros-at}
 use Rattle.model.proofs.KnownValues.{optionOf, knownOf}
 use Rattle.model.proofs.RulesDecide.{Chained, Decides, decides}
@@ -33,7 +33,7 @@ use Rattle.model.proofs.Decode.{Fine, PlainFine, decode-fine}
 use Rattle.model.proofs.Tidy.{Tidy, entry-word}
 use Rattle.model.proofs.Rows.{eight-words, words-eight}
 use Rattle.model.proofs.Unique.{chained, to-same, reference-decides, reading-tidy}
-use Rattle.model.proofs.Exactly.{questionsAt, NoNo, judge-exactly, judge-refused, passed-lengths}
+use Rattle.model.proofs.Exactly.{questionsAt, NoNo, judge-exactly, judge-refused}
 use Rattle.model.proofs.TableLaws.{sized}
 use Rattle.model.proofs.ReadingStates.{seenOf, throughOf, stateOf}
 use Rattle.model.proofs.ReadingDecides.{row-rule, rule-row, plain-reads, PassedPlain, reads-plain, plain-refused, refused-plain, none-not-some}
@@ -198,7 +198,7 @@ module _ (types tags : List ℕ) (C : Code) where
   P′ = routineOf C
 
   -- the questions of an instruction of block b at offset j
-  abbrev asksHere : ℕ → ℕ → Instruction → Reading → Outcome Reading
+  abbrev pub asksHere : ℕ → ℕ → Instruction → Reading → Outcome Reading
   asksHere b j x st = readInstruction 𝒯′ P′ (noAt 𝒯′ P′ b j) b (suc j) (lastAt P′ b j) x st
 
   -- what a reading of the block is

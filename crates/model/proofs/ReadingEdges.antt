@@ -290,10 +290,10 @@ becomes-one 𝒯 R K v one (stays n) (becomes q) = absurd (n _ q)
 becomes-one 𝒯 R K v one (stays n) (stays m) = refl
 
 module _ (𝒯 : Tables) (st : Reading) (g : ℕ) (T : Tidy st g) (few : g ≤ 32) where
-  there : (r : ℕ) → valueIn st r < length (st .values .words)
+  pub there : (r : ℕ) → valueIn st r < length (st .values .words)
   there r = let h = T .registers r in let l = T .values .words in omega arith
 
-  chains : Chained (st .values)
+  pub chains : Chained (st .values)
   chains = chained 𝒯 (st .values) g (T .values)
 
   -- what the reading knows on each edge is what the rules tell

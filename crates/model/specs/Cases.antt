@@ -29,6 +29,9 @@ maybeWord t = typeWord 2 t 0 0
 abbrev pub taggedWord : ℕ → ℕ
 taggedWord d = typeWord 3 0 d 0
 
+abbrev pub presentWord : ℕ → ℕ
+presentWord d = typeWord 4 0 d 0
+
 abbrev pub sameWord : ℕ → ℕ
 sameWord d = typeWord 5 0 d 0
 

@@ -11,8 +11,8 @@ use Rattle.model.specs.Table.{Tables, tablesOf, Code, codeOf, Routine, r
 use Rattle.model.specs.Values.{Values, apart}
 use Rattle.model.specs.Reading.{Reading, entry}
 use Rattle.model.specs.Check.{readOn, check}
-use Rattle.model.specs.Cases.{constantByte, refWord, maybeWord, taggedWord, sameWord, fromWord, inWord, haltWord, constantWord, loadWord}
-use Rattle.model.specs.Cases.{storeWord, jumpWord, ifEqualWord, ifLessWord, row, verdict}
+use Rattle.model.specs.Cases.{constantByte, refWord, maybeWord, taggedWord, presentWord, sameWord, fromWord, inWord, haltWord}
+use Rattle.model.specs.Cases.{constantWord, loadWord, storeWord, jumpWord, ifEqualWord, ifLessWord, row, verdict}
 
 -- ---- the check before the card: a block starts with what document 01 alone knows, and is read on by the same definitions
 
@@ -60,13 +60,13 @@ Keep = (types tags : List ℕ) (C : Code) → WithoutStores C → checkApart typ
 
 -- ---- cases: answers before the card, and now
 
-abbrev pub Answers : List ℕ → List ℕ → Code → Verdict → Verdict → Type 0
-Answers types tags C before now = (checkApart types tags C ≡ before) × (check types tags C ≡ now)
+abbrev pub Verdicts : List ℕ → List ℕ → Code → Verdict → Verdict → Type 0
+Verdicts types tags C before now = (checkApart types tags C ≡ before) × (check types tags C ≡ now)
 
 -- the same of a block 0 that knows something and jumps to block 1, which wants something; one record type, of one word
 abbrev pub Jump : List ℕ → List ℕ → Verdict → Verdict → Type 0
 Jump known wanted before now =
-    Answers (row 1 0 0 0 0 0 0 0 0) [] (codeOf (1 ∷ known ++ 1 ∷ wanted) (jumpWord 1 ∷ haltWord ∷ [])) before now
+    Verdicts (row 1 0 0 0 0 0 0 0 0) [] (codeOf (1 ∷ known ++ 1 ∷ wanted) (jumpWord 1 ∷ haltWord ∷ [])) before now
 
 abbrev pub eight : ℕ → ℕ → ℕ → ℕ → ℕ → ℕ → ℕ → ℕ → List ℕ
 eight r0 r1 r2 r3 r4 r5 r6 r7 = r0 ∷ r1 ∷ r2 ∷ r3 ∷ r4 ∷ r5 ∷ r6 ∷ r7 ∷ []
@@ -92,6 +92,12 @@ abbrev pub twoConstants : ℕ → Code
 twoConstants c =
     codeOf (row 3 0 0 0 0 0 0 0 0 ++ row 1 0 0 0 0 0 0 0 0 ++ row 1 0 (sameConstantWord c) 0 0 0 0 0 0)
     (constantWord 0 5 ∷ constantWord 1 5 ∷ ifEqualWord 0 7 2 ∷ haltWord ∷ haltWord ∷ [])
+
+-- r1 is the same as r0, which has the constant 5; r3 is a record's start by the tag r1; where r0 is 1, block 2 wants r3 to be a start of type 0
+abbrev pub tagOfTwo : Code
+tagOfTwo =
+    codeOf (row 1 (sameConstantWord 5) (sameWord 0) 0 (presentWord 1) 0 0 0 0 ++ row 1 0 0 0 0 0 0 0 0 ++ row 1 0 0 0 (refWord 0) 0 0 0 0)
+    (ifEqualWord 0 1 2 ∷ haltWord ∷ haltWord ∷ [])
 
 -- r1 walks from r2 on; r4 is the end r3 through r5; below r4 it is In
 abbrev pub endThroughChain : Code
@@ -135,16 +141,17 @@ pub record ChainCases : Type 0 where
   pub tagOn : Jump (eight 0 (sameWord 2) (sameConstantWord 1) 0 (taggedWord 1) 0 0 0) (eight 0 0 0 0 (taggedWord (constantByte 1)) 0 0 0)
       (verdict 14 0 0) accepted
   -- 'where it then has two, either serves'
-  pub firstOfTwo : Answers (row 1 0 0 0 0 0 0 0 0) [] (twoConstants 5) accepted accepted
-  pub secondOfTwo : Answers (row 1 0 0 0 0 0 0 0 0) [] (twoConstants 7) (verdict 14 0 2) accepted
-  pub neitherOfTwo : Answers (row 1 0 0 0 0 0 0 0 0) [] (twoConstants 6) (verdict 14 0 2) (verdict 14 0 2)
+  pub firstOfTwo : Verdicts (row 1 0 0 0 0 0 0 0 0) [] (twoConstants 5) accepted accepted
+  pub secondOfTwo : Verdicts (row 1 0 0 0 0 0 0 0 0) [] (twoConstants 7) (verdict 14 0 2) accepted
+  pub neitherOfTwo : Verdicts (row 1 0 0 0 0 0 0 0 0) [] (twoConstants 6) (verdict 14 0 2) (verdict 14 0 2)
+  pub tagByEither : Verdicts (row 1 0 0 0 0 0 0 0 0) (0 ∷ 0 ∷ []) tagOfTwo (verdict 14 0 0) accepted
   -- the fields of one record are chained, and not those of two
-  pub fieldsOn : Answers threeAlike [] (loadsAlike 3) (verdict 14 0 3) accepted
-  pub otherRecord : Answers threeAlike [] (loadsAlike 4) (verdict 14 0 3) (verdict 14 0 3)
+  pub fieldsOn : Verdicts threeAlike [] (loadsAlike 3) (verdict 14 0 3) accepted
+  pub otherRecord : Verdicts threeAlike [] (loadsAlike 4) (verdict 14 0 3) (verdict 14 0 3)
   -- 'From with rb known equal to e'
-  pub walkOn : Answers (row 1 0 0 0 0 0 0 0 0) [] endThroughChain (verdict 14 0 0) accepted
+  pub walkOn : Verdicts (row 1 0 0 0 0 0 0 0 0) [] endThroughChain (verdict 14 0 0) accepted
   -- types and what an edge makes of them stay with the very value
-  pub noReference : Answers (row 1 0 0 0 0 0 0 0 0) [] loadThroughSame (verdict 10 0 0) (verdict 10 0 0)
-  pub noRefinement : Answers (row 1 0 0 0 0 0 0 0 0) [] testThroughSame (verdict 15 0 0) (verdict 15 0 0)
+  pub noReference : Verdicts (row 1 0 0 0 0 0 0 0 0) [] loadThroughSame (verdict 10 0 0) (verdict 10 0 0)
+  pub noRefinement : Verdicts (row 1 0 0 0 0 0 0 0 0) [] testThroughSame (verdict 15 0 0) (verdict 15 0 0)
   -- 'A routine without stores': one with stores was accepted, and is not
-  pub withStores : Answers (row 2 0 (sameWord 0) 0 0 0 0 0 0) [] storesAlike accepted (verdict 13 0 4)
+  pub withStores : Verdicts (row 2 0 (sameWord 0) 0 0 0 0 0 0) [] storesAlike accepted (verdict 13 0 4)

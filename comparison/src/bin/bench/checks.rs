@@ -110,5 +110,5 @@ fn chained() -> Row {
         case.blocks.chunks_exact_mut(18).for_each(|two| two[10..].copy_from_slice(&odd));
         Input { units: 2 * (64 * part - 1), case, answer: (0, 0, 0) }
     });
-    Row { limit: 4.0, ..row }
+    Row { limit: 3.0, ..row }
 }
