@@ -187,17 +187,7 @@ fn put(
         → r ≡ rowFits (tablesIn types tags) (valuesIn words frames constants 0 0) n (now (row .entry)) (set (now (fields .entry)) c x)) ⌝ }
 {
     fields[c as usize] = x;
-    fits::row_fits(
-        tags,
-        words,
-        frames,
-        constants,
-        0,
-        0,
-        n as usize,
-        row,
-        fields,
-    )
+    fits::row_fits(tags, words, frames, constants, 0, n as usize, row, fields)
 }
 
 // Q12 of a store, and the field of the record, of size n, is the value. It closes if each field fits its type.

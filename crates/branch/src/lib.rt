@@ -83,7 +83,7 @@ fn next_kind(
         return w;
     }
     let d = known::dependency(frames, v as u32, x);
-    if !known::known_equal(words, frames, constants, 0, 0, u, d) {
+    if !known::known_equal(words, frames, constants, 0, u, d) {
         return w;
     }
     word::with_kind(kind + 1, w)
@@ -129,7 +129,8 @@ fn learn(
 ) -> EdgeFacts
     requires { ⌜ (10 < opcodeOf word) × (opcodeOf word ≤ 12) × (aOf word < 8) × (bOf word < 8) ⌝ }
     ensures { λ r. ⌜ ((views fields : List ℕ) (since base : ℕ) → Tells r (now (words .entry)) (now (frames .entry)) (now (constants .entry))
-        (endOf word) (readingIn registers words frames constants views fields since base)) ⌝ }
+        (endOf word) (readingIn registers words frames constants views fields since base))
+        × (r .equal ≤ 256) ⌝ }
 {
     let a = word::a(word);
     let v = registers[a];
@@ -173,17 +174,17 @@ fn edge(
     equal: u32,
     row: &[u32],
 ) -> bool
-    requires { ⌜ 8 ≤ length (now row) ⌝ }
+    requires { ⌜ (equal ≤ 256) × (8 ≤ length (now row)) ⌝ }
     ensures { λ r. ⌜ ((types : List ℕ)
         → r ≡ rowFits (tablesIn types tags) (valuesIn words frames constants tested equal) 8 (now (row .entry)) (now (registers .entry))) ⌝ }
 {
+    let test = known::test(words, frames, constants, tested, equal);
     fits::row_fits(
         tags,
         words,
         frames,
         constants,
-        tested,
-        equal,
+        test,
         limit::REGISTERS,
         row,
         registers,
@@ -201,7 +202,7 @@ fn fork(
     taken: &[u32],
     untaken: &[u32],
 ) -> u32
-    requires { ⌜ (8 ≤ length (now taken)) × (8 ≤ length (now untaken)) ⌝ }
+    requires { ⌜ (t .equal ≤ 256) × (8 ≤ length (now taken)) × (8 ≤ length (now untaken)) ⌝ }
     ensures { λ r. ⌜ ((place : Question → Refusal) (types : List ℕ) → numbered place r tt ≡ forkAsk (tablesIn types tags) place (now (registers .entry))
         (takenIn t (now (words .entry)) (now (frames .entry)) (now (constants .entry))) (now (taken .entry))
         (untakenIn t (now (words .entry)) (now (frames .entry)) (now (constants .entry))) (now (untaken .entry)))

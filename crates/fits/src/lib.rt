@@ -1,4 +1,5 @@
-// Whether a value fits a type, and which record a value is a reference to. Everything here only reads.
+// Whether a value fits a type, and which record a value is a reference to. Everything here only reads. What a test tells of values is the
+// number that known::test makes.
 ghost use mathlib.Core.Path.{_≡_};
 ghost use mathlib.Core.List.{List};
 ghost use Prim.Native.Nat.{ℕ, _≤_, _<_};
@@ -7,7 +8,7 @@ ghost use Rattle.model.specs.Word.{kindOf};
 ghost use Rattle.model.specs.Table.{tablesOf};
 ghost use Rattle.model.specs.Values.{typed};
 ghost use Rattle.model.specs.Reading.{isRef, isMaybe, fits, rowFits, referenceOf};
-ghost use Rattle.known.specs.Numbers.{valuesOf, tablesIn, valuesIn, depAt};
+ghost use Rattle.known.specs.Numbers.{valuesOf, tablesIn, valuesIn, depAt, Told};
 ghost use Rattle.fits.specs.Fits.{ofValue, fitsIn, meant, refers, refersOf, byRecord, byOwnTag, tagFits, placeFits};
 use model::Reference;
 
@@ -44,27 +45,17 @@ fn is_ref(
     words: &[u32; 256],
     frames: &[u8; 32],
     constants: &[u32; 32],
-    tested: u8,
-    equal: u32,
+    test: u64,
     v: u8,
     t: u32,
 ) -> bool
-    ensures { λ r. ⌜ ((types : List ℕ) → r ≡ ofValue (λ 𝒯 vs. isRef 𝒯 vs t) types tags words frames constants tested equal v) ⌝ }
+    ensures { λ r. ⌜ ((types : List ℕ) (tested equal : ℕ) → Told (valuesIn words frames constants tested equal) test
+        → r ≡ ofValue (λ 𝒯 vs. isRef 𝒯 vs t) types tags words frames constants tested equal v) ⌝ }
 {
     let by = refers_by(words, frames, v);
     match by {
         Referred::Record(u) => u == t,
-        Referred::Tag(x) => known::known_tag(
-            tags,
-            words,
-            frames,
-            constants,
-            tested,
-            equal,
-            x,
-            t,
-            false,
-        ),
+        Referred::Tag(x) => known::known_tag(tags, words, frames, constants, test, x, t, false),
         Referred::Neither => false,
     }
 }
@@ -75,12 +66,12 @@ fn is_maybe(
     words: &[u32; 256],
     frames: &[u8; 32],
     constants: &[u32; 32],
-    tested: u8,
-    equal: u32,
+    test: u64,
     v: u8,
     t: u32,
 ) -> bool
-    ensures { λ r. ⌜ ((types : List ℕ) → r ≡ ofValue (λ 𝒯 vs. isMaybe 𝒯 vs t) types tags words frames constants tested equal v) ⌝ }
+    ensures { λ r. ⌜ ((types : List ℕ) (tested equal : ℕ) → Told (valuesIn words frames constants tested equal) test
+        → r ≡ ofValue (λ 𝒯 vs. isMaybe 𝒯 vs t) types tags words frames constants tested equal v) ⌝ }
 {
     let w = words[v as usize];
     let kind = word::kind(w);
@@ -91,7 +82,7 @@ fn is_maybe(
         return false;
     }
     let x = known::dependency(frames, v as u32, word::first_dependency(w));
-    known::known_tag(tags, words, frames, constants, tested, equal, x, t, true)
+    known::known_tag(tags, words, frames, constants, test, x, t, true)
 }
 
 // Whether the value v fits the type word w, which is Run, From or In.
@@ -99,14 +90,13 @@ fn is_span(
     words: &[u32; 256],
     frames: &[u8; 32],
     constants: &[u32; 32],
-    tested: u8,
-    equal: u32,
+    test: u64,
     v: u8,
     w: u32,
     names: &[u8; 8],
 ) -> bool
     requires { ⌜ 6 ≤ kindOf w ⌝ }
-    ensures { λ r. ⌜ ((types tags : List ℕ)
+    ensures { λ r. ⌜ ((types tags : List ℕ) (tested equal : ℕ) → Told (valuesIn words frames constants tested equal) test
         → r ≡ fits (tablesOf types tags) (valuesIn words frames constants tested equal) v (meant (now (names .entry)) w)) ⌝ }
 {
     let own = words[v as usize];
@@ -119,12 +109,12 @@ fn is_span(
     let first = known::frame(frames, v as u32);
     let d = known::sibling(first, word::first_dependency(own));
     let d_wanted = known::named(names, word::first_dependency(w));
-    if !known::known_equal(words, frames, constants, tested, equal, d, d_wanted) {
+    if !known::known_bound(words, frames, constants, test, d, d_wanted) {
         return false;
     }
     let e = known::sibling(first, word::second_dependency(own));
     let e_wanted = known::named(names, word::second_dependency(w));
-    known::known_equal(words, frames, constants, tested, equal, e, e_wanted)
+    known::known_bound(words, frames, constants, test, e, e_wanted)
 }
 
 // Whether the value v fits the type word w, which is Ref or Maybe.
@@ -133,26 +123,26 @@ fn fits_pointer(
     words: &[u32; 256],
     frames: &[u8; 32],
     constants: &[u32; 32],
-    tested: u8,
-    equal: u32,
+    test: u64,
     v: u8,
     w: u32,
     names: &[u8; 8],
 ) -> bool
     requires { ⌜ (1 ≤ kindOf w) × (kindOf w ≤ 2) ⌝ }
-    ensures { λ r. ⌜ ((types : List ℕ) → r ≡ fitsIn types tags words frames constants tested equal v w names) ⌝ }
+    ensures { λ r. ⌜ ((types : List ℕ) (tested equal : ℕ) → Told (valuesIn words frames constants tested equal) test
+        → r ≡ fitsIn types tags words frames constants tested equal v w names) ⌝ }
 {
     let t = word::record_type(w);
-    if is_ref(tags, words, frames, constants, tested, equal, v, t) {
+    if is_ref(tags, words, frames, constants, test, v, t) {
         return true;
     }
     if word::kind(w) == word::REF {
         return false;
     }
-    if known::known_zero(words, frames, constants, tested, equal, v) {
+    if known::known_zero(words, frames, constants, test, v) {
         return true;
     }
-    is_maybe(tags, words, frames, constants, tested, equal, v, t)
+    is_maybe(tags, words, frames, constants, test, v, t)
 }
 
 // Whether a value of this kind fits Tagged, or Present, where the tag wanted is one of its record type: Ref, In, and for Tagged Maybe.
@@ -190,26 +180,25 @@ fn tag_fits(
     words: &[u32; 256],
     frames: &[u8; 32],
     constants: &[u32; 32],
-    tested: u8,
-    equal: u32,
+    test: u64,
     v: u8,
     y: u32,
     present: bool,
 ) -> bool
-    ensures { λ r. ⌜ ((types : List ℕ)
+    ensures { λ r. ⌜ ((types : List ℕ) (tested equal : ℕ) → Told (valuesIn words frames constants tested equal) test
         → r ≡ ofValue (λ 𝒯 vs. tagFits 𝒯 vs present (depAt y)) types tags words frames constants tested equal v) ⌝ }
 {
     let own = words[v as usize];
     let kind = word::kind(own);
     if by_record(kind, present) {
         let t = word::record_type(own);
-        return known::known_tag(tags, words, frames, constants, tested, equal, y, t, false);
+        return known::known_tag(tags, words, frames, constants, test, y, t, false);
     }
     if !by_own_tag(kind, present) {
         return false;
     }
     let x = known::dependency(frames, v as u32, word::first_dependency(own));
-    known::known_equal(words, frames, constants, tested, equal, x, y)
+    known::known_equal(words, frames, constants, test, x, y)
 }
 
 // Whether the value v fits the type word w, which is Tagged or Present.
@@ -218,24 +207,24 @@ fn fits_tagged(
     words: &[u32; 256],
     frames: &[u8; 32],
     constants: &[u32; 32],
-    tested: u8,
-    equal: u32,
+    test: u64,
     v: u8,
     w: u32,
     names: &[u8; 8],
 ) -> bool
     requires { ⌜ (3 ≤ kindOf w) × (kindOf w ≤ 4) ⌝ }
-    ensures { λ r. ⌜ ((types : List ℕ) → r ≡ fitsIn types tags words frames constants tested equal v w names) ⌝ }
+    ensures { λ r. ⌜ ((types : List ℕ) (tested equal : ℕ) → Told (valuesIn words frames constants tested equal) test
+        → r ≡ fitsIn types tags words frames constants tested equal v w names) ⌝ }
 {
     let y = known::named(names, word::first_dependency(w));
     let present = word::kind(w) == word::PRESENT;
-    if tag_fits(tags, words, frames, constants, tested, equal, v, y, present) {
+    if tag_fits(tags, words, frames, constants, test, v, y, present) {
         return true;
     }
     if present {
         return false;
     }
-    known::known_zero(words, frames, constants, tested, equal, v)
+    known::known_zero(words, frames, constants, test, v)
 }
 
 // Whether the value v fits the type word w, read with names for its names. Any is by far the most common, and comes first.
@@ -244,33 +233,29 @@ fn value_fits(
     words: &[u32; 256],
     frames: &[u8; 32],
     constants: &[u32; 32],
-    tested: u8,
-    equal: u32,
+    test: u64,
     v: u8,
     w: u32,
     names: &[u8; 8],
 ) -> bool
-    ensures { λ r. ⌜ ((types : List ℕ) → r ≡ fitsIn types tags words frames constants tested equal v w names) ⌝ }
+    ensures { λ r. ⌜ ((types : List ℕ) (tested equal : ℕ) → Told (valuesIn words frames constants tested equal) test
+        → r ≡ fitsIn types tags words frames constants tested equal v w names) ⌝ }
 {
     let kind = word::kind(w);
     if kind == word::ANY {
         return true;
     }
     if kind < word::TAGGED {
-        return fits_pointer(tags, words, frames, constants, tested, equal, v, w, names);
+        return fits_pointer(tags, words, frames, constants, test, v, w, names);
     }
     if kind < word::SAME {
-        return fits_tagged(tags, words, frames, constants, tested, equal, v, w, names);
+        return fits_tagged(tags, words, frames, constants, test, v, w, names);
     }
     if kind == word::SAME {
-        let x = v as u32;
         let y = known::named(names, word::first_dependency(w));
-        if x == y {
-            return true;
-        }
-        return known::joined(words, frames, constants, tested, equal, x, y);
+        return known::known_equal(words, frames, constants, test, v as u32, y);
     }
-    is_span(words, frames, constants, tested, equal, v, w, names)
+    is_span(words, frames, constants, test, v, w, names)
 }
 
 // Whether the name at place k fits its type word of the row.
@@ -279,14 +264,13 @@ pub fn field_fits(
     words: &[u32; 256],
     frames: &[u8; 32],
     constants: &[u32; 32],
-    tested: u8,
-    equal: u32,
+    test: u64,
     k: usize,
     row: &[u32],
     names: &[u8; 8],
 ) -> bool
     requires { ⌜ (k < 8) × (k < length (now row)) ⌝ }
-    ensures { λ r. ⌜ ((types : List ℕ)
+    ensures { λ r. ⌜ ((types : List ℕ) (tested equal : ℕ) → Told (valuesIn words frames constants tested equal) test
         → r ≡ placeFits (tablesIn types tags) (valuesIn words frames constants tested equal) (now (row .entry)) (now (names .entry)) k) ⌝ }
 {
     value_fits(
@@ -294,8 +278,7 @@ pub fn field_fits(
         words,
         frames,
         constants,
-        tested,
-        equal,
+        test,
         names[k],
         row[k],
         names,
@@ -308,19 +291,18 @@ pub fn row_fits(
     words: &[u32; 256],
     frames: &[u8; 32],
     constants: &[u32; 32],
-    tested: u8,
-    equal: u32,
+    test: u64,
     n: usize,
     row: &[u32],
     names: &[u8; 8],
 ) -> bool
     requires { ⌜ (n ≤ 8) × (n ≤ length (now row)) ⌝ }
-    ensures { λ r. ⌜ ((types : List ℕ)
+    ensures { λ r. ⌜ ((types : List ℕ) (tested equal : ℕ) → Told (valuesIn words frames constants tested equal) test
         → r ≡ rowFits (tablesIn types tags) (valuesIn words frames constants tested equal) n (now (row .entry)) (now (names .entry))) ⌝ }
 {
     let mut i = 0;
     while i < n {
-        if !field_fits(tags, words, frames, constants, tested, equal, i, row, names) {
+        if !field_fits(tags, words, frames, constants, test, i, row, names) {
             return false;
         }
         i += 1;

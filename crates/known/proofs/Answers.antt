@@ -1,26 +1,27 @@
 -- One law for each way out of a function.
 use mathlib.Core.Path.{_≡_, refl, sym, _∙_}
-use mathlib.Core.Logic.{_⊎_, inl, inr}
 use mathlib.Core.Bool.{Bool, true, false}
 use mathlib.Core.List.{List, [], _++_}
-use Prim.Native.Nat.{ℕ, zero, suc, _+_, _-_, _/_, _<_, _≤_}
+use Prim.Native.Nat.{ℕ, suc, _+_, _-_, _/_, _<_, _≤_}
 use native.Mathlib.Omega.{arith}
 use lib.Dec.{eqb}
 use lib.ListN.{length, getD}
 use borrow.Author.Tests.{lt-ltb, le-ltb, le-leb, lt-leb, eq-eqb, ne-eqb}
-use Rattle.model.specs.Question.{_and_, _or_, pick}
+use Rattle.model.specs.Question.{_and_, _or_}
 use Rattle.model.specs.Word.{kindOf, firstOf}
 use Rattle.model.specs.Types.{typeOf, rename}
 use Rattle.model.specs.Table.{Tables, tablesOf}
-use Rattle.model.specs.Values.{Values, birthplace, typed, constantHeld, some, rootOf, sameHeld, heldAt, chainConstant, oneConstant, alike, told}
-use Rattle.model.specs.Values.{toldConstants, constantsJoined, equalJoined, constantsOf, knownEqual}
+use Rattle.model.specs.Values.{Values, birthplace, typed, constantHeld, some, rootOf, sameHeld, heldAt, chainConstant, oneConstant, alike}
+use Rattle.model.specs.Values.{constantsJoined, equalJoined, constantsOf, knownEqual}
 use Rattle.model.specs.Reading.{tagOf, beyond, knownZero, firstTag}
+use Rattle.model.specs.declared.Reference.{Reference}
 use Rattle.model.specs.declared.Reference.the-variants.{To, Nothing}
-use Rattle.model.proofs.Logic.{byTest, or-of-true}
+use Rattle.model.proofs.Logic.{byTest, byEqual, or-of-true, true-and}
 use Rattle.model.proofs.Joined.{dep-same}
-use Rattle.known.specs.Numbers.{valuesOf, depAt, servesAsTag}
-use Rattle.known.proofs.Numbers.{dep-name, dep-constant, same-numbers, some-both, some-none, some-one, or-false, held-is}
+use Rattle.known.specs.Numbers.{valuesOf, depAt, stand, Told, partnerOf, servesAsTag}
+use Rattle.known.proofs.Numbers.{dep-name, dep-constant, or-false, held-is, held-name, held-constant, some-constant}
 use Rattle.known.proofs.Numbers.{type-any, type-ref, type-maybe, type-tagged, type-present, type-same, type-span, byKind}
+use Rattle.known.proofs.Stands.{told-nothing, constant-by, equal-by, passes-by}
 
 -- ---- known constants
 
@@ -52,41 +53,11 @@ module _ (vs : Values) (x : ℕ) where
     constant-typed n s es = rw (dep-name x h, ne-eqb (getD (vs .words) x 0) 0 n) (es (λ i. getD (vs .frames) (birthplace x) 0 + i))
 
 -- r stands for x
-pub constant-root : (vs : Values) (x r : ℕ) → depAt r ≡ rootOf vs (depAt x) → (k : ℕ) → k ≡ heldAt vs (depAt r) → k ≡ chainConstant vs (depAt x)
+constant-root : (vs : Values) (x r : ℕ) → depAt r ≡ rootOf vs (depAt x) → (k : ℕ) → k ≡ heldAt vs (depAt r) → k ≡ chainConstant vs (depAt x)
 unfolding chainConstant
 constant-root vs x r er k ek = rw (← er) ek
 
 -- ---- known equal
-
--- r and s stand for x and y
-module _ (vs : Values) (x y r s : ℕ) (er : depAt r ≡ rootOf vs (depAt x)) (es : depAt s ≡ rootOf vs (depAt y)) where
-  pub alike-joined : r ≡ s → true ≡ alike vs (depAt x) (depAt y)
-  unfolding alike _or_
-  alike-joined e = rw (← er, ← es, same-numbers r s, eq-eqb r s e)
-
-  pub alike-constant : (r ≡ s → ⊥) → (k l : ℕ) → k ≡ heldAt vs (depAt r) → l ≡ heldAt vs (depAt s) → (b : Bool) → b ≡ oneConstant k l
-      → b ≡ alike vs (depAt x) (depAt y)
-  unfolding alike _or_
-  alike-constant n k l ek el b eb =
-      rw (← er, ← es, same-numbers r s, ne-eqb r s n, ← constant-root vs x r er k ek, ← constant-root vs y s es l el) eb
-
--- what a test tells of x
-module _ (vs : Values) (x : ℕ) where
-  pub told-nothing : vs .equal ≡ 0 → false ≡ told vs (depAt x)
-  unfolding told _and_
-  told-nothing e = rw e
-
-  -- something was tested, and k is the constant of x by chains alone
-  module _ (h : 0 < vs .equal) (l : vs .tested < 256) (k : ℕ) (ek : k ≡ chainConstant vs (depAt x)) where
-    told-parts : told vs (depAt x) ≡ alike vs (depAt x) (depAt (vs .tested)) or eqb k (vs .equal)
-    unfolding told _and_
-    told-parts = rw (le-leb 1 (vs .equal) (omega arith), dep-name (vs .tested) l, ← ek)
-
-    pub told-constant : k ≡ vs .equal → true ≡ told vs (depAt x)
-    told-constant e = sym (told-parts ∙ or-of-true _ _ (eq-eqb k (vs .equal) e))
-
-    pub told-alike : (k ≡ vs .equal → ⊥) → (b : Bool) → b ≡ alike vs (depAt x) (depAt (vs .tested)) → b ≡ told vs (depAt x)
-    told-alike d b eb = eb ∙ sym (told-parts ∙ rw (ne-eqb k (vs .equal) d) (or-false _))
 
 module _ (words frames constants : List ℕ) (tested equal x y : ℕ) where
   abbrev vs : Values
@@ -103,132 +74,102 @@ module _ (words frames constants : List ℕ) (tested equal x y : ℕ) where
   unfolding knownEqual equalJoined _or_
   equal-alike e = rw e
 
-  pub equal-untested : equal ≡ 0 → (b : Bool) → b ≡ alike vs (depAt x) (depAt y) → b ≡ equal-xy
-  unfolding knownEqual equalJoined _and_
-  equal-untested e b eb = eb ∙ rw (← told-nothing vs x e) (sym (or-false _))
+  -- k and l are the constants that x and y have by themselves
+  pub equal-constants : (k l : ℕ) → k ≡ heldAt vs (depAt x) → depAt x ≡ rootOf vs (depAt x) → l ≡ heldAt vs (depAt y) → depAt y ≡ rootOf vs (depAt y)
+      → 0 < k → k ≡ l → true ≡ equal-xy
+  unfolding alike oneConstant
+  equal-constants k l ek rx el ry h e =
+      equal-alike (or-of-true _ _ (rw (← constant-root vs x x rx k ek, ← constant-root vs y y ry l el) (true-and _ _ (le-leb 1 k h) (eq-eqb k l e))))
 
-  module _ (n : alike vs (depAt x) (depAt y) ≡ false) where
-    pub equal-untold : told vs (depAt x) ≡ false → false ≡ equal-xy
-    unfolding knownEqual equalJoined _and_ _or_
-    equal-untold e = rw (n, e)
+  -- r and s stand for x and y
+  module _ (test : ℕ) (known : Told vs test) (r s : ℕ) (er : depAt r ≡ stand vs (depAt x)) (es : depAt s ≡ stand vs (depAt y)) where
+    pub equal-stand : r ≡ s → true ≡ equal-xy
+    unfolding knownEqual _or_
+    equal-stand e = sym (equal-by vs test known (depAt x) r er (depAt y) s es ∙ rw (eq-eqb r s e))
 
-    pub equal-told : told vs (depAt x) ≡ true → (b : Bool) → b ≡ told vs (depAt y) → b ≡ equal-xy
-    unfolding knownEqual equalJoined _and_ _or_
-    equal-told e b eb = rw (n, e) eb
+    pub equal-partner : (r ≡ s → ⊥) → (p : ℕ) → p ≡ partnerOf test r → eqb p s ≡ equal-xy
+    unfolding knownEqual _or_
+    equal-partner n p ep = sym (equal-by vs test known (depAt x) r er (depAt y) s es ∙ rw (ne-eqb r s n, ← ep))
 
 -- ---- tags
 
-module _ (types tags : List ℕ) (past : Bool) (n t : ℕ) where
+module _ (types tags : List ℕ) (past : Bool) (r t : ℕ) where
   abbrev 𝒯 : Tables
   𝒯 = tablesOf types tags
 
   abbrev serves : ℕ → Bool
   serves = servesAsTag past 𝒯 t
 
-  pub tag-none : n ≡ 0 → false ≡ some serves (constantHeld n)
-  tag-none e = sym (some-none serves n e)
+  pub tag-none : r < 256 → false ≡ some serves (constantHeld (r - 255))
+  unfolding some
+  tag-none h = rw (held-name r h)
 
-  pub tag-past : (n ≡ 0 → ⊥) → length tags ≤ n - 1 → past ≡ some serves (constantHeld n)
-  unfolding tagOf beyond tablesOf _and_ _or_
-  tag-past h l =
-      sym (some-one serves n (omega arith)
-      ∙ byTest past (λ q. rw (q, le-ltb (n - 1) (length tags) l, le-leb (length tags) (n - 1) l))
-      (λ q. rw (q, le-ltb (n - 1) (length tags) l)))
+  module _ (h : 256 ≤ r) where
+    pub tag-past : length tags ≤ r - 256 → past ≡ some serves (constantHeld (r - 255))
+    unfolding tagOf beyond tablesOf _and_ _or_
+    tag-past l =
+        sym (some-constant r serves h
+        ∙ byTest past (λ q. rw (q, le-ltb (r - 256) (length tags) l, le-leb (length tags) (r - 256) l))
+        (λ q. rw (q, le-ltb (r - 256) (length tags) l)))
 
-  pub tag-is : (n ≡ 0 → ⊥) → n - 1 < length tags → eqb (getD tags (n - 1) 0) t ≡ some serves (constantHeld n)
-  unfolding tagOf beyond tablesOf _and_
-  tag-is h l =
-      sym (some-one serves n (omega arith)
-      ∙ byTest past (λ q. rw (q, lt-ltb (n - 1) (length tags) l, lt-leb (length tags) (n - 1) l) (or-false _))
-      (λ q. rw (q, lt-ltb (n - 1) (length tags) l)))
+    pub tag-is : r - 256 < length tags → eqb (getD tags (r - 256) 0) t ≡ some serves (constantHeld (r - 255))
+    unfolding tagOf beyond tablesOf _and_
+    tag-is l =
+        sym (some-constant r serves h
+        ∙ byTest past (λ q. rw (q, lt-ltb (r - 256) (length tags) l, lt-leb (length tags) (r - 256) l) (or-false _))
+        (λ q. rw (q, lt-ltb (r - 256) (length tags) l)))
 
--- k is the constant of x by chains alone
-pub held-passes : (vs : Values) (x k : ℕ) → k ≡ chainConstant vs (depAt x) → (f : ℕ → Bool) (b : Bool) → b ≡ some f (constantHeld k)
-    → b ≡ some f (constantHeld (chainConstant vs (depAt x)))
-held-passes vs x k ek f b eb = rw (← ek) eb
-
--- whether some known constant of x passes a test
+-- r stands for x: whether some known constant of x passes a test
 module _ (words frames constants : List ℕ) (tested equal x : ℕ) (f : ℕ → Bool) where
   abbrev us : Values
   us = valuesOf words frames constants tested equal
 
-  abbrev passes : Bool
-  passes = some f (constantsOf us (depAt x))
+  abbrev passing : Bool
+  passing = some f (constantsOf us (depAt x))
 
-  -- the constant of x by chains alone does
-  abbrev chain-passes : Bool
-  chain-passes = some f (constantHeld (chainConstant us (depAt x)))
+  module _ (test : ℕ) (known : Told us test) (r : ℕ) (er : depAt r ≡ stand us (depAt x)) where
+    pub passes-stand : some f (constantHeld (r - 255)) ≡ true → true ≡ passing
+    unfolding constantsOf _or_
+    passes-stand e = sym (passes-by f us test known (depAt x) r er ∙ rw e)
 
-  chain-or-told : passes ≡ chain-passes or some f (pick (told us (depAt x)) (toldConstants us) [])
-  unfolding constantsOf constantsJoined
-  chain-or-told = some-both f (constantHeld (chainConstant us (depAt x))) _
-
-  pub known-untested : equal ≡ 0 → (b : Bool) → b ≡ chain-passes → b ≡ passes
-  unfolding some
-  known-untested e b eb = eb ∙ sym (chain-or-told ∙ rw (← told-nothing us x e) (or-false chain-passes))
-
-  pub known-own : chain-passes ≡ true → true ≡ passes
-  unfolding _or_
-  known-own h = sym (chain-or-told ∙ rw h)
-
-  module _ (n : chain-passes ≡ false) where
-    pub known-untold : told us (depAt x) ≡ false → false ≡ passes
-    unfolding some _or_
-    known-untold e = sym (chain-or-told ∙ rw (n, e))
-
-    module _ (t : told us (depAt x) ≡ true) (h : tested < 256) where
-      -- that of the value tested does
-      abbrev tested-passes : Bool
-      tested-passes = some f (constantHeld (chainConstant us (depAt tested)))
-
-      by-test : passes ≡ tested-passes or some f (constantHeld equal)
-      unfolding _or_
-      by-test = chain-or-told ∙ rw (n, t, ← dep-name tested h) (some-both f (constantHeld (chainConstant us (depAt tested))) (constantHeld equal))
-
-      pub known-tested : tested-passes ≡ true → true ≡ passes
-      unfolding _or_
-      known-tested e = sym (by-test ∙ rw e)
-
-      pub known-equal : tested-passes ≡ false → (b : Bool) → b ≡ some f (constantHeld equal) → b ≡ passes
-      unfolding _or_
-      known-equal e b eb = eb ∙ sym (by-test ∙ rw e)
+    pub passes-partner : some f (constantHeld (r - 255)) ≡ false → (p : ℕ) → p ≡ partnerOf test r
+        → (b : Bool) → b ≡ some f (constantHeld (p - 255)) → b ≡ passing
+    unfolding constantsOf _or_
+    passes-partner n p ep b eb = eb ∙ sym (passes-by f us test known (depAt x) r er ∙ rw (n, ← ep))
 
 -- known 0 is a test of the constants of a value
 pub zero-known : (𝒯 : Tables) (vs : Values) (x : ℕ) → x < 256 → (b : Bool) → b ≡ some (eqb 0) (constantsOf vs (depAt x)) → b ≡ knownZero 𝒯 vs x
 unfolding knownZero
 zero-known 𝒯 vs x h b eb = rw (← dep-name x h) eb
 
-pub zero-held : (k : ℕ) → eqb k 1 ≡ some (eqb 0) (constantHeld k)
-zero-held k = sym (held-is k 0)
+pub zero-held : (r : ℕ) → eqb r 256 ≡ some (eqb 0) (constantHeld (r - 255))
+zero-held r =
+    sym (held-is (r - 255) 0
+    ∙ byEqual r 256 (λ e. rw e) (λ n. ne-eqb (r - 255) 1 (λ e. n (omega arith)) ∙ sym (ne-eqb r 256 n)))
 
 -- ---- the type that a tag names
 
-module _ (types tags : List ℕ) where
-  abbrev 𝒮 : Tables
-  𝒮 = tablesOf types tags
+-- nothing was tested, and r stands for x
+module _ (types tags words frames constants : List ℕ) (x r : ℕ) (er : depAt r ≡ stand (valuesOf words frames constants 0 0) (depAt x)) where
+  abbrev untested : Values
+  untested = valuesOf words frames constants 0 0
 
-  no-tag : (n : ℕ) → (n ≡ 0) ⊎ (length tags < n) → firstTag 𝒮 (constantHeld n ++ []) ≡ Nothing
-  unfolding firstTag tablesOf
-  no-tag zero h = refl
-  no-tag (suc k) (inl e) = absurd (omega arith)
-  no-tag (suc k) (inr h) = rw (le-ltb k (length tags) (omega arith))
+  abbrev named : Reference
+  named = firstTag (tablesOf types tags) (constantsOf untested (depAt x))
 
-  a-tag : (n : ℕ) → 0 < n → n ≤ length tags → firstTag 𝒮 (constantHeld n ++ []) ≡ To (getD tags (n - 1) 0)
-  unfolding firstTag tablesOf
-  a-tag zero h q = absurd (omega arith)
-  a-tag (suc k) h q = let z : suc k - 1 ≡ k = omega arith in rw (lt-ltb k (length tags) (omega arith), z)
+  alone : constantsOf untested (depAt x) ≡ constantHeld (r - 255) ++ []
+  unfolding constantsOf constantsJoined
+  alone = rw (constant-by untested (depAt x) r er, told-nothing untested (depAt x) refl)
 
-  -- nothing was tested, and k is the constant of x
-  module _ (words frames constants : List ℕ) (x k : ℕ) (ek : k ≡ chainConstant (valuesOf words frames constants 0 0) (depAt x)) where
-    abbrev untested : Values
-    untested = valuesOf words frames constants 0 0
+  pub type-none : r < 256 → Nothing ≡ named
+  unfolding firstTag
+  type-none h = rw (alone, held-name r h)
 
-    alone : constantsOf untested (depAt x) ≡ constantHeld k ++ []
-    unfolding constantsOf constantsJoined
-    alone = rw (← ek, ← told-nothing untested x refl)
+  module _ (h : 256 ≤ r) where
+    pub type-past : length tags ≤ r - 256 → Nothing ≡ named
+    unfolding firstTag tablesOf
+    type-past l = rw (alone, held-constant r h, le-ltb (r - 256) (length tags) l)
 
-    pub type-none : (k ≡ 0) ⊎ (length tags < k) → Nothing ≡ firstTag 𝒮 (constantsOf untested (depAt x))
-    type-none h = rw alone (sym (no-tag k h))
-
-    pub type-of-tag : (0 < k) × (k ≤ length tags) → To (getD tags (k - 1) 0) ≡ firstTag 𝒮 (constantsOf untested (depAt x))
-    type-of-tag h = rw alone (sym (a-tag k (h .0) (h .1)))
+    pub type-of-tag : r - 256 < length tags → To (getD tags (r - 256) 0) ≡ named
+    unfolding firstTag tablesOf
+    type-of-tag l = rw (alone, held-constant r h, lt-ltb (r - 256) (length tags) l)

@@ -1,31 +1,21 @@
 -- Chains of Same as the code follows them: a step, the steps that are left, and what stands for a dependency.
 use mathlib.Core.Path.{_≡_, sym, _∙_}
-use mathlib.Core.Bool.{false}
+use mathlib.Core.Bool.{true}
 use Prim.Native.Nat.{ℕ, suc, _+_, _-_, _/_, _<_, _≤_}
 use native.Mathlib.Omega.{arith}
 use lib.Dec.{ltb}
 use lib.ListN.{getD}
 use borrow.Author.Tests.{lt-ltb, le-ltb, eq-eqb, ne-eqb}
-use Rattle.model.specs.Question.{_and_, pick}
+use Rattle.model.specs.Question.{pick}
 use Rattle.model.specs.Word.{kindOf, firstOf}
-use Rattle.model.specs.Types.{same}
-use Rattle.model.specs.Values.{Values, birthplace, typed, leadBy, lead, along, leastAlong, root, rootOf}
-use Rattle.model.proofs.Logic.{byEqual, byLess}
-use Rattle.model.proofs.Roots.{along-still, root-still}
-use Rattle.known.specs.Numbers.{depAt, siblingOf, linked}
+use Rattle.model.specs.Types.{name, same}
+use Rattle.model.specs.Values.{Values, birthplace, typed, leadBy, lead, along, leastAlong, root, rootOf, alike}
+use Rattle.model.proofs.Logic.{true-or}
+use Rattle.model.proofs.Roots.{along-still, root-still, root-lead}
+use Rattle.model.proofs.Joined.{dep-same}
+use Rattle.known.specs.Numbers.{depAt}
 use Rattle.known.proofs.Numbers.{dep-name, dep-constant}
 use Rattle.known.proofs.Numbers.{type-any, type-ref, type-maybe, type-tagged, type-present, type-same, type-span, byKind}
-
--- ---- where a chain starts
-
-module _ (w : ℕ) where
-  pub linked-other : (kindOf w ≡ 5 → ⊥) → false ≡ linked w
-  unfolding linked _and_
-  linked-other n = rw (ne-eqb (kindOf w) 5 n)
-
-  pub linked-same : kindOf w ≡ 5 → (p : ℕ) → p ≡ firstOf w → ltb p 8 ≡ linked w
-  unfolding linked _and_
-  linked-same k p e = rw (eq-eqb (kindOf w) 5 k, ← e)
 
 -- ---- a step
 
@@ -42,25 +32,22 @@ module _ (vs : Values) (v : ℕ) where
       byKind (kindOf word) (λ e. rw (type-any frame word e)) (λ e. rw (type-ref frame word e)) (λ e. rw (type-maybe frame word e))
       (λ e. rw (type-tagged frame word e)) (λ e. rw (type-present frame word e)) (λ e. absurd (n e)) (λ k e. rw (type-span frame word k e))
 
-  -- v is Same of x
-  module _ (k : kindOf word ≡ 5) (p : ℕ) (ep : p ≡ firstOf word) (x : ℕ) (ex : depAt x ≡ siblingOf (getD (vs .frames) (birthplace v) 0) p) where
-    leads : lead vs v ≡ leadBy v (same (depAt x))
-    unfolding lead typed siblingOf
-    leads = rw (type-same frame word k, ← ep, ← ex)
+  -- v is Same of the name p, and f is the frame that it is read in
+  module _ (k : kindOf word ≡ 5) (p : ℕ) (ep : p ≡ firstOf word) (h : p < 8) (f : ℕ) (ef : f ≡ getD (vs .frames) (birthplace v) 0) where
+    leads : lead vs v ≡ leadBy v (same (name (f + p)))
+    unfolding lead typed
+    leads = rw (type-same frame word k, ← ep, lt-ltb p 8 h, ← ef)
 
-    pub lead-away : (x / 8 ≡ v / 8 → ⊥) → v ≡ lead vs v
-    lead-away n = sym (leads ∙ byLess x 256 (λ h. rw (dep-name x h, ne-eqb (x / 8) (v / 8) n)) (λ h. rw (dep-constant x h)))
+    pub lead-away : ((f + p) / 8 ≡ v / 8 → ⊥) → v ≡ lead vs v
+    lead-away n = sym (leads ∙ rw (ne-eqb ((f + p) / 8) (v / 8) n))
 
-    pub lead-near : x < 256 → x / 8 ≡ v / 8 → x ≡ lead vs v
-    lead-near h e = sym (leads ∙ rw (dep-name x h, eq-eqb (x / 8) (v / 8) e))
+    pub lead-near : (f + p) / 8 ≡ v / 8 → f + p ≡ lead vs v
+    lead-near e = sym (leads ∙ rw (eq-eqb ((f + p) / 8) (v / 8) e))
 
-  -- no chain starts at v
-  pub lead-still : linked word ≡ false → lead vs v ≡ v
-  unfolding linked lead typed _and_
-  lead-still u =
-      byEqual (kindOf word) 5
-      (λ k. let far : ltb (firstOf word) 8 ≡ false = rw (eq-eqb (kindOf word) 5 k) at u in rw (type-same frame word k, far))
-      lead-other
+  -- v is Same of a constant
+  pub lead-constant : kindOf word ≡ 5 → (p : ℕ) → p ≡ firstOf word → 8 ≤ p → lead vs v ≡ v
+  unfolding lead typed
+  lead-constant k p ep h = rw (type-same frame word k, ← ep, le-ltb p 8 h)
 
 -- ---- the steps that are left
 
@@ -115,3 +102,8 @@ module _ (vs : Values) (x : ℕ) where
 
     pub root-far : (r : ℕ) → r < 256 → r ≡ root vs x → depAt r ≡ rootOf vs (depAt x)
     root-far r l e = rw (dep-name x h, ← e) (dep-name r l)
+
+    -- x leads to y
+    pub led-alike : (y : ℕ) → y ≡ lead vs x → y < 256 → alike vs (depAt x) (depAt y) ≡ true
+    unfolding alike
+    led-alike y e l = true-or _ _ (rw (dep-name x h, dep-name y l, e, root-lead vs x) (dep-same (name (root vs x))))

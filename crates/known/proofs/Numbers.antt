@@ -2,18 +2,18 @@
 use mathlib.Core.Path.{_≡_, refl, sym, ap, _∙_}
 use mathlib.Core.Bool.{Bool, true, false}
 use mathlib.Core.List.{List, [], _∷_, _++_}
-use Prim.Native.Nat.{ℕ, zero, suc, _+_, _-_, _*_, _%_, _<_, _≤_}
+use Prim.Native.Nat.{ℕ, zero, suc, _+_, _-_, _*_, _/_, _%_, _<_, _≤_}
 use native.Mathlib.Omega.{arith}
 use lib.Dec.{eqb}
 use lib.ListN.{getD, set}
-use borrow.Author.Tests.{lt-ltb, le-ltb, le-leb, eq-eqb, ne-eqb}
-use Rattle.model.specs.Question.{_and_, _or_}
+use borrow.Author.Tests.{lt-ltb, le-ltb, eq-eqb, ne-eqb}
+use Rattle.model.specs.Question.{_or_}
 use Rattle.model.specs.Word.{kindOf, recordOf, firstOf, secondOf}
 use Rattle.model.specs.Types.{name, con, depOf, renameDep, any, ref, maybe, tagged, present, same, span, typeOf, rename}
-use Rattle.model.specs.Values.{constantHeld, some, sameDep, oneConstant}
+use Rattle.model.specs.Values.{constantHeld, some, sameDep}
 use Rattle.model.proofs.Logic.{byTest, byEqual, byLess}
 use Rattle.model.proofs.Lists.{map-set}
-use Rattle.known.specs.Numbers.{frameOf, framesOf, depAt, siblingOf, namedOf}
+use Rattle.known.specs.Numbers.{frameOf, framesOf, depAt, siblingOf, namedOf, constantOr, partnerOf}
 
 -- ---- frames
 
@@ -122,20 +122,22 @@ unfolding some _or_
 some-both f [] ys = refl
 some-both f (x ∷ xs) ys = byTest (f x) (λ e. rw e) (λ e. rw e (some-both f xs ys))
 
-pub some-none : (f : ℕ → Bool) (n : ℕ) → n ≡ 0 → some f (constantHeld n) ≡ false
-unfolding some
-some-none f n e = rw e
-
-pub some-one : (f : ℕ → Bool) (n : ℕ) → 0 < n → some f (constantHeld n) ≡ f (n - 1)
-unfolding some _or_
-some-one f n h = let e : n ≡ suc (n - 1) = omega arith in ap {B = Bool} (λ (m : ℕ). some f (constantHeld m)) e ∙ byTest (f (n - 1)) (λ q. rw q) (λ q. rw q)
-
--- ---- one constant
-
 pub or-false : (b : Bool) → b or false ≡ b
 unfolding _or_
 or-false true = refl
 or-false false = refl
+
+-- the constant that the number r is, held
+module _ (r : ℕ) where
+  pub held-name : r < 256 → constantHeld (r - 255) ≡ []
+  held-name h = let z : r - 255 ≡ 0 = omega arith in rw z
+
+  pub held-constant : 256 ≤ r → constantHeld (r - 255) ≡ (r - 256) ∷ []
+  held-constant h = let z : r - 255 ≡ suc (r - 256) = omega arith in rw z
+
+  pub some-constant : (f : ℕ → Bool) → 256 ≤ r → some f (constantHeld (r - 255)) ≡ f (r - 256)
+  unfolding some
+  some-constant f h = rw (held-constant h) (or-false (f (r - 256)))
 
 pub held-is : (n c : ℕ) → some (eqb c) (constantHeld n) ≡ eqb n (suc c)
 unfolding some _or_
@@ -144,11 +146,25 @@ held-is (suc d) c =
     byEqual c d (λ e. rw (eq-eqb c d e, eq-eqb (suc d) (suc c) (omega arith)))
     (λ n. rw (ne-eqb c d n, ne-eqb (suc d) (suc c) (λ e. n (omega arith))))
 
-module _ (k l : ℕ) where
-  pub one-none : k ≡ 0 → false ≡ oneConstant k l
-  unfolding oneConstant _and_
-  one-none e = rw e
+-- the constant that k holds, as a dependency, or x
+module _ (k x : ℕ) where
+  pub or-none : k ≡ 0 → x ≡ constantOr k x
+  or-none e = rw e
 
-  pub one-is : (k ≡ 0 → ⊥) → eqb k l ≡ oneConstant k l
-  unfolding oneConstant _and_
-  one-is n = rw (le-leb 1 k (omega arith))
+  pub or-constant : (k ≡ 0 → ⊥) → k + 255 ≡ constantOr k x
+  or-constant n = rw (ne-eqb k 0 n)
+
+-- the one of the two that a test joins for the other
+module _ (test r : ℕ) where
+  pub partner-constant : r ≡ test / 512 → test % 512 ≡ partnerOf test r
+  unfolding partnerOf
+  partner-constant e = rw (eq-eqb r (test / 512) e)
+
+  module _ (n : r ≡ test / 512 → ⊥) where
+    pub partner-value : r ≡ test % 512 → test / 512 ≡ partnerOf test r
+    unfolding partnerOf
+    partner-value e = rw (ne-eqb r (test / 512) n, eq-eqb r (test % 512) e)
+
+    pub partner-none : (r ≡ test % 512 → ⊥) → r ≡ partnerOf test r
+    unfolding partnerOf
+    partner-none m = rw (ne-eqb r (test / 512) n, ne-eqb r (test % 512) m)

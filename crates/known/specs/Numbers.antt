@@ -1,17 +1,17 @@
 -- The values of a reading as arrays of numbers hold them: frames as birthplaces, a dependency as one number, a known constant c as
 -- c + 1.
+use mathlib.Core.Path.{_≡_}
 use mathlib.Core.Bool.{Bool, true, false}
 use mathlib.Core.List.{List, map}
-use Prim.Native.Nat.{ℕ, _+_, _-_, _*_, _%_}
+use Prim.Native.Nat.{ℕ, zero, suc, _+_, _-_, _*_, _/_, _%_, _<_}
 use lib.Dec.{ltb, eqb}
 use lib.ListN.{getD}
 use denote.Ref.{RefT, now}
 use denote.Triple.Both.{Both}
-use Rattle.model.specs.Question.{_and_, _or_, pick}
-use Rattle.model.specs.Word.{kindOf, firstOf}
+use Rattle.model.specs.Question.{_or_, pick}
 use Rattle.model.specs.Types.{Dep, name, con, depOf, renameDep}
 use Rattle.model.specs.Table.{Tables, tablesOf}
-use Rattle.model.specs.Values.{Values, joined}
+use Rattle.model.specs.Values.{Values, joined, rootOf, chainConstant}
 use Rattle.model.specs.Reading.{tagOf, beyond}
 
 -- A frame is held as the birthplace of its eight names. There are 32 birthplaces, so that every name is below 256.
@@ -48,9 +48,27 @@ siblingOf frame x = renameDep (λ i. frame + i) (depOf x)
 unfoldable pub namedOf : List ℕ → ℕ → Dep
 namedOf names x = renameDep (λ i. getD names i 0) (depOf x)
 
--- w is Same of a name
-unfoldable pub linked : ℕ → Bool
-linked w = eqb (kindOf w) 5 and ltb (firstOf w) 8
+-- the constant that k holds, as a dependency; x where it holds none
+abbrev pub constantOr : ℕ → ℕ → ℕ
+constantOr k x = pick (eqb k 0) x (k + 255)
+
+-- What stands for all that chains of Same join with x: their constant, or the value at their root where they have none.
+abbrev pub standBy : ℕ → Dep → Dep
+standBy zero r = r
+standBy (suc c) r = con c
+
+unfoldable pub stand : Values → Dep → Dep
+stand vs x = standBy (chainConstant vs x) (rootOf vs x)
+
+-- A test makes two known equal: what stands for the value tested, and the constant. One number has both, 512 times the first and the
+-- second, and is 0 where nothing was tested.
+abbrev pub Told : Values → ℕ → Type 0
+Told vs test =
+    (vs .equal ≡ 0 → test ≡ 0) × (0 < vs .equal → (depAt (test / 512) ≡ stand vs (name (vs .tested))) × (test % 512 ≡ vs .equal + 255))
+
+-- the one of the two for the other, and r for any other
+unfoldable pub partnerOf : ℕ → ℕ → ℕ
+partnerOf test r = pick (eqb r (test / 512)) (test % 512) (pick (eqb r (test % 512)) (test / 512) r)
 
 -- 01: 'a tag of T or beyond the table'; or a tag of T alone
 abbrev pub servesAsTag : Bool → Tables → ℕ → ℕ → Bool

@@ -5,15 +5,12 @@
 ghost use mathlib.Core.Path.{_≡_};
 ghost use mathlib.Core.List.{List};
 ghost use mathlib.Core.Bool.{true, false};
-ghost use mathlib.Core.Logic.{_⊎_};
-ghost use Prim.Native.Nat.{ℕ, _≤_, _<_};
-ghost use lib.Dec.{eqb};
-ghost use lib.ListN.{length, getD};
+ghost use Prim.Native.Nat.{ℕ, _-_, _≤_, _<_};
+ghost use lib.ListN.{getD};
 ghost use Rattle.model.specs.Table.{tablesOf};
-ghost use Rattle.model.specs.Values.{birthplace, lead, leastAlong, root, rootOf, heldAt, chainConstant, oneConstant, alike, told};
-ghost use Rattle.model.specs.Values.{constantHeld, constantsOf, some, knownEqual};
+ghost use Rattle.model.specs.Values.{birthplace, lead, leastAlong, root, rootOf, heldAt, alike, constantHeld, constantsOf, some, knownEqual};
 ghost use Rattle.model.specs.Reading.{knownZero, firstTag};
-ghost use Rattle.known.specs.Numbers.{framesOf, valuesOf, tablesIn, valuesIn, depAt, siblingOf, namedOf, linked, servesAsTag};
+ghost use Rattle.known.specs.Numbers.{framesOf, valuesOf, tablesIn, valuesIn, depAt, siblingOf, namedOf, constantOr, stand, partnerOf, Told, servesAsTag};
 use model::Reference;
 
 // Eight values are born together, so that a chain of Same among them ends, or comes to a circle, within so many steps.
@@ -61,8 +58,7 @@ pub fn named(names: &[u8; 8], x: u32) -> u32
 
 // ---- chains of Same
 
-// The value that a Same of v leads to, one of the eight born with it; v itself where there is none. A constant comes as 256 or more,
-// the birthplace of no value, so that one test answers for both.
+// The value that a Same of v leads to, one of the eight born with it; v itself where there is none.
 fn lead(words: &[u32; 256], frames: &[u8; 32], v: u32) -> u32
     requires { ⌜ v < 256 ⌝ }
     ensures { λ r. ⌜ ((constants : List ℕ) (tested equal : ℕ)
@@ -73,7 +69,11 @@ fn lead(words: &[u32; 256], frames: &[u8; 32], v: u32) -> u32
     if word::kind(w) != word::SAME {
         return v;
     }
-    let x = dependency(frames, v, word::first_dependency(w));
+    let d = word::first_dependency(w);
+    if word::CONSTANTS <= d {
+        return v;
+    }
+    let x = frame(frames, v) + d;
     if x / 8 != v / 8 {
         return v;
     }
@@ -100,8 +100,7 @@ fn least_on_circle(words: &[u32; 256], frames: &[u8; 32], u: u32) -> u32
     least
 }
 
-// The value that stands for all that chains of Same join with v. Nearly every chain ends, and most of them after a step or two. It is
-// called from two places, and so stays a function of its own when compiled, out of the way of the many values that no chain starts at.
+// The value at the root of all that chains of Same join with v. Nearly every chain ends, and most of them after a step or two.
 fn far_root(words: &[u32; 256], frames: &[u8; 32], v: u32) -> u32
     requires { ⌜ v < 256 ⌝ }
     ensures { λ r. ⌜ ((constants : List ℕ) (tested equal : ℕ)
@@ -121,185 +120,150 @@ fn far_root(words: &[u32; 256], frames: &[u8; 32], v: u32) -> u32
     least_on_circle(words, frames, x)
 }
 
-// Whether the type word w is Same of a name, so that a chain starts there.
-fn linked(w: u32) -> bool
-    ensures { λ r. ⌜ r ≡ linked w ⌝ }
+// Whether a chain starts at x: it is a value of type Same of a name.
+fn linked(words: &[u32; 256], x: u32) -> bool
+    ensures { λ r. ⌜ (r ≡ true → x < 256)
+        × (r ≡ false → (frames constants : List ℕ) (tested equal : ℕ)
+        → depAt x ≡ rootOf (valuesOf (now (words .entry)) frames constants tested equal) (depAt x)) ⌝ }
 {
+    if 256 <= x {
+        return false;
+    }
+    let w = words[x as usize];
     if word::kind(w) != word::SAME {
         return false;
     }
     word::first_dependency(w) < word::CONSTANTS
 }
 
-// What stands for all that chains of Same join with x. A constant stands for itself, and so does a value that no chain starts at.
-fn root(words: &[u32; 256], frames: &[u8; 32], x: u32) -> u32
-    ensures { λ r. ⌜ ((constants : List ℕ) (tested equal : ℕ)
-        → depAt r ≡ rootOf (valuesOf (now (words .entry)) (now (frames .entry)) constants tested equal) (depAt x)) ⌝ }
-{
-    if 256 <= x {
-        return x;
-    }
-    let w = words[x as usize];
-    if !linked(w) {
-        return x;
-    }
-    far_root(words, frames, x)
-}
-
 // ---- known constants
 
-// What x has by itself: whether a chain starts at it, so that another stands for it, and its constant, 0 for none.
-struct Alone {
-    link: bool,
-    constant: u32,
-}
-
-// The constant is opcode 1's for a value of type Any, and that of Same for another. The frames are lent for the contract, which speaks of
-// the values that the three arrays make.
-fn own(words: &[u32; 256], frames: &[u8; 32], constants: &[u32; 32], x: u32) -> Alone
-    ensures { λ r. ⌜ ((tested equal : ℕ) → r .constant ≡ heldAt (valuesIn words frames constants tested equal) (depAt x))
-        × (r .link ≡ false → (tested equal : ℕ) → depAt x ≡ rootOf (valuesIn words frames constants tested equal) (depAt x)) ⌝ }
+// The constant that x has by itself, 0 for none: opcode 1's for a value of type Any, and that of Same for another. No chain starts at
+// what has one.
+fn own_constant(words: &[u32; 256], constants: &[u32; 32], x: u32) -> u32
+    ensures { λ r. ⌜ ((frames : List ℕ) (tested equal : ℕ)
+        → (r ≡ heldAt (valuesOf (now (words .entry)) frames (now (constants .entry)) tested equal) (depAt x))
+        × (0 < r → depAt x ≡ rootOf (valuesOf (now (words .entry)) frames (now (constants .entry)) tested equal) (depAt x))) ⌝ }
 {
     if 256 <= x {
-        let itself = x - 255;
-        return Alone {
-            link: false,
-            constant: itself,
-        };
+        return x - 255;
     }
     let w = words[x as usize];
     if w == 0 {
-        let birthplace = (x / 8) as usize;
-        let given = constants[birthplace];
-        return Alone {
-            link: false,
-            constant: given,
-        };
+        return constants[(x / 8) as usize];
     }
     if word::kind(w) != word::SAME {
-        return Alone {
-            link: false,
-            constant: 0,
-        };
+        return 0;
     }
     let d = word::first_dependency(w);
     if d < word::CONSTANTS {
-        return Alone {
-            link: true,
-            constant: 0,
-        };
+        return 0;
     }
-    let of_same = d - 7;
-    Alone {
-        link: false,
-        constant: of_same,
-    }
+    d - 7
 }
 
-// The constant of all that chains of Same join with x, 0 for none: where nothing was tested, the known constant of x.
-fn constant_of(words: &[u32; 256], frames: &[u8; 32], constants: &[u32; 32], x: u32) -> u32
-    ensures { λ r. ⌜ ((tested equal : ℕ) → r ≡ chainConstant (valuesIn words frames constants tested equal) (depAt x)) ⌝ }
-{
-    let stands = root(words, frames, x);
-    let k = own(words, frames, constants, stands);
-    k.constant
-}
-
-// Whether k and l hold one constant.
-fn one_constant(k: u32, l: u32) -> bool
-    ensures { λ r. ⌜ r ≡ oneConstant k l ⌝ }
+// The constant that k holds, or x where it holds none.
+fn constant_or(k: u32, x: u32) -> u64
+    ensures { λ r. ⌜ (r ≡ constantOr k x) × (r < 4294967551) ⌝ }
 {
     if k == 0 {
-        return false;
+        return x as u64;
     }
-    k == l
+    k as u64 + 255
+}
+
+// What stands for a value, by the root of its chain. It is called from two places, and so stays a function of its own when compiled, out
+// of the way of the many values that no chain starts at.
+fn far_stand(words: &[u32; 256], frames: &[u8; 32], constants: &[u32; 32], v: u32) -> u64
+    requires { ⌜ v < 256 ⌝ }
+    ensures { λ r. ⌜ ((tested equal : ℕ) → depAt r ≡ stand (valuesIn words frames constants tested equal) (depAt v))
+        × (r < 4294967551) ⌝ }
+{
+    let r = far_root(words, frames, v);
+    constant_or(own_constant(words, constants, r), r)
+}
+
+// What stands for all that chains of Same join with x: their constant, or the value at their root where they have none. Two that nothing
+// was told of are known equal where one stands for both.
+fn stand(words: &[u32; 256], frames: &[u8; 32], constants: &[u32; 32], x: u32) -> u64
+    ensures { λ r. ⌜ ((tested equal : ℕ) → depAt r ≡ stand (valuesIn words frames constants tested equal) (depAt x)) ⌝ }
+{
+    if linked(words, x) {
+        return far_stand(words, frames, constants, x);
+    }
+    constant_or(own_constant(words, constants, x), x)
+}
+
+// ---- what a test tells
+
+// A taken opcode 11 tests a value against the constant that equal holds, and so makes two known equal: what stands for the value, and the
+// constant. Both go as one number, 512 times the first and the second, since every question is handed it; 0 where nothing was tested.
+pub fn test(
+    words: &[u32; 256],
+    frames: &[u8; 32],
+    constants: &[u32; 32],
+    tested: u8,
+    equal: u32,
+) -> u64
+    requires { ⌜ equal ≤ 256 ⌝ }
+    ensures { λ r. ⌜ Told (valuesIn words frames constants tested equal) r ⌝ }
+{
+    if equal == 0 {
+        return 0;
+    }
+    far_stand(words, frames, constants, tested as u32) * 512 + equal as u64 + 255
+}
+
+// What a test makes known equal to r: the one of its two for the other, and r itself for all else.
+fn partner(test: u64, r: u64) -> u64
+    ensures { λ s. ⌜ s ≡ partnerOf test r ⌝ }
+{
+    let value = test / 512;
+    let constant = test % 512;
+    if r == value {
+        return constant;
+    }
+    if r == constant {
+        return value;
+    }
+    r
 }
 
 // ---- known equal
 
-// Whether chains of Same join x and y, or the constant that these have.
-fn alike(words: &[u32; 256], frames: &[u8; 32], constants: &[u32; 32], x: u32, y: u32) -> bool
-    ensures { λ r. ⌜ ((tested equal : ℕ) → r ≡ alike (valuesIn words frames constants tested equal) (depAt x) (depAt y)) ⌝ }
+// Whether a Same leads from x to y.
+fn leads_to(words: &[u32; 256], frames: &[u8; 32], x: u32, y: u32) -> bool
+    ensures { λ r. ⌜ (r ≡ true → (constants : List ℕ) (tested equal : ℕ)
+        → alike (valuesOf (now (words .entry)) (now (frames .entry)) constants tested equal) (depAt x) (depAt y) ≡ true) ⌝ }
 {
-    let r = root(words, frames, x);
-    let s = root(words, frames, y);
+    if 256 <= x {
+        return false;
+    }
+    lead(words, frames, x) == y
+}
+
+// Whether x and y, which are mostly not one, are known equal. A link from x to y is asked first, since most links are so asked for. It is
+// called from two places, and so stays a function of its own when compiled.
+fn joined(
+    words: &[u32; 256],
+    frames: &[u8; 32],
+    constants: &[u32; 32],
+    test: u64,
+    x: u32,
+    y: u32,
+) -> bool
+    ensures { λ r. ⌜ ((tested equal : ℕ) → Told (valuesIn words frames constants tested equal) test
+        → r ≡ knownEqual (valuesIn words frames constants tested equal) (depAt x) (depAt y)) ⌝ }
+{
+    if leads_to(words, frames, x, y) {
+        return true;
+    }
+    let r = stand(words, frames, constants, x);
+    let s = stand(words, frames, constants, y);
     if r == s {
         return true;
     }
-    let k = own(words, frames, constants, r);
-    let l = own(words, frames, constants, s);
-    one_constant(k.constant, l.constant)
-}
-
-// Whether a taken opcode 11, which tested a value against the constant that equal holds, tells of x: it is known equal to that value, or
-// has that constant without it. Where nothing was tested, equal is 0.
-fn told(
-    words: &[u32; 256],
-    frames: &[u8; 32],
-    constants: &[u32; 32],
-    tested: u8,
-    equal: u32,
-    x: u32,
-) -> bool
-    ensures { λ r. ⌜ r ≡ told (valuesIn words frames constants tested equal) (depAt x) ⌝ }
-{
-    if equal == 0 {
-        return false;
-    }
-    if constant_of(words, frames, constants, x) == equal {
-        return true;
-    }
-    alike(words, frames, constants, x, tested as u32)
-}
-
-// Whether x and y are known equal, through chains and what was tested.
-fn joined_through(
-    words: &[u32; 256],
-    frames: &[u8; 32],
-    constants: &[u32; 32],
-    tested: u8,
-    equal: u32,
-    x: u32,
-    y: u32,
-) -> bool
-    ensures { λ r. ⌜ r ≡ knownEqual (valuesIn words frames constants tested equal) (depAt x) (depAt y) ⌝ }
-{
-    if alike(words, frames, constants, x, y) {
-        return true;
-    }
-    if !told(words, frames, constants, tested, equal, x) {
-        return false;
-    }
-    told(words, frames, constants, tested, equal, y)
-}
-
-// Whether x and y, which are not one, are known equal. Mostly nothing was tested and neither is a link of a chain; then their own
-// constants decide. What is rare is called from several places, so that it stays a function of its own when compiled, and the registers
-// that it needs are saved only there.
-pub fn joined(
-    words: &[u32; 256],
-    frames: &[u8; 32],
-    constants: &[u32; 32],
-    tested: u8,
-    equal: u32,
-    x: u32,
-    y: u32,
-) -> bool
-    requires { ⌜ (x ≡ y → ⊥) ⌝ }
-    ensures { λ r. ⌜ r ≡ knownEqual (valuesIn words frames constants tested equal) (depAt x) (depAt y) ⌝ }
-{
-    if equal != 0 {
-        return joined_through(words, frames, constants, tested, equal, x, y);
-    }
-    let k = own(words, frames, constants, x);
-    if k.link {
-        return joined_through(words, frames, constants, tested, equal, x, y);
-    }
-    let l = own(words, frames, constants, y);
-    if l.link {
-        return joined_through(words, frames, constants, tested, equal, x, y);
-    }
-    one_constant(k.constant, l.constant)
+    partner(test, r) == s
 }
 
 // Whether x and y are known equal. Most are one value, and that is asked first.
@@ -307,116 +271,79 @@ pub fn known_equal(
     words: &[u32; 256],
     frames: &[u8; 32],
     constants: &[u32; 32],
-    tested: u8,
-    equal: u32,
+    test: u64,
     x: u32,
     y: u32,
 ) -> bool
-    ensures { λ r. ⌜ r ≡ knownEqual (valuesIn words frames constants tested equal) (depAt x) (depAt y) ⌝ }
+    ensures { λ r. ⌜ ((tested equal : ℕ) → Told (valuesIn words frames constants tested equal) test
+        → r ≡ knownEqual (valuesIn words frames constants tested equal) (depAt x) (depAt y)) ⌝ }
 {
     if x == y {
         return true;
     }
-    joined(words, frames, constants, tested, equal, x, y)
+    joined(words, frames, constants, test, x, y)
+}
+
+// Whether x and y, bounds of runs, are known equal. Most that are not one value have a constant of their own, and that is asked next.
+pub fn known_bound(
+    words: &[u32; 256],
+    frames: &[u8; 32],
+    constants: &[u32; 32],
+    test: u64,
+    x: u32,
+    y: u32,
+) -> bool
+    ensures { λ r. ⌜ ((tested equal : ℕ) → Told (valuesIn words frames constants tested equal) test
+        → r ≡ knownEqual (valuesIn words frames constants tested equal) (depAt x) (depAt y)) ⌝ }
+{
+    if x == y {
+        return true;
+    }
+    let c = own_constant(words, constants, x);
+    if c == 0 {
+        return joined(words, frames, constants, test, x, y);
+    }
+    if c == own_constant(words, constants, y) {
+        return true;
+    }
+    joined(words, frames, constants, test, x, y)
 }
 
 // ---- tags
 
-// Whether the constant that n holds is a tag of t; with beyond, one beyond the table serves too.
-fn is_tag(tags: &[u32], n: u32, t: u32, beyond: bool) -> bool
-    ensures { λ r. ⌜ ((types : List ℕ) → r ≡ some (servesAsTag beyond (tablesIn types tags) t) (constantHeld n)) ⌝ }
+// Whether r is a constant that is a tag of t; with beyond, one beyond the table serves too.
+fn is_tag(tags: &[u32], r: u64, t: u32, beyond: bool) -> bool
+    ensures { λ b. ⌜ ((types : List ℕ) → b ≡ some (servesAsTag beyond (tablesIn types tags) t) (constantHeld (r - 255))) ⌝ }
 {
-    if n == 0 {
+    if r < 256 {
         return false;
     }
-    let k = (n - 1) as usize;
+    let k = (r - 256) as usize;
     if tags.len() <= k {
         return beyond;
     }
     tags[k] == t
 }
 
-// Whether the constant of all that chains of Same join with x is a tag of t; with beyond, one beyond the table serves too.
-fn chain_tag(
-    tags: &[u32],
-    words: &[u32; 256],
-    frames: &[u8; 32],
-    constants: &[u32; 32],
-    x: u32,
-    t: u32,
-    beyond: bool,
-) -> bool
-    ensures { λ r. ⌜ ((types : List ℕ) (tested equal : ℕ)
-        → r ≡ some (servesAsTag beyond (tablesIn types tags) t)
-        (constantHeld (chainConstant (valuesIn words frames constants tested equal) (depAt x)))) ⌝ }
-{
-    let k = constant_of(words, frames, constants, x);
-    is_tag(tags, k, t, beyond)
-}
-
-// Whether x has a known constant that is a tag of t, or one beyond the table, through chains and what was tested: where the test tells of
-// x, the constant of the value tested and the one that it was tested against serve as well.
-fn tag_through(
-    tags: &[u32],
-    words: &[u32; 256],
-    frames: &[u8; 32],
-    constants: &[u32; 32],
-    tested: u8,
-    equal: u32,
-    x: u32,
-    t: u32,
-    beyond: bool,
-) -> bool
-    ensures { λ r. ⌜ ((types : List ℕ)
-        → r ≡ some (servesAsTag beyond (tablesIn types tags) t) (constantsOf (valuesIn words frames constants tested equal) (depAt x))) ⌝ }
-{
-    if chain_tag(tags, words, frames, constants, x, t, beyond) {
-        return true;
-    }
-    if !told(words, frames, constants, tested, equal, x) {
-        return false;
-    }
-    if chain_tag(tags, words, frames, constants, tested as u32, t, beyond) {
-        return true;
-    }
-    is_tag(tags, equal, t, beyond)
-}
-
-// Whether x has a known constant that is a tag of t; with beyond, one beyond the table serves too. What is mostly so is asked first, as
-// in joined.
+// Whether x has a known constant that is a tag of t; with beyond, one beyond the table serves too.
 pub fn known_tag(
     tags: &[u32],
     words: &[u32; 256],
     frames: &[u8; 32],
     constants: &[u32; 32],
-    tested: u8,
-    equal: u32,
+    test: u64,
     x: u32,
     t: u32,
     beyond: bool,
 ) -> bool
-    ensures { λ r. ⌜ ((types : List ℕ)
+    ensures { λ r. ⌜ ((types : List ℕ) (tested equal : ℕ) → Told (valuesIn words frames constants tested equal) test
         → r ≡ some (servesAsTag beyond (tablesIn types tags) t) (constantsOf (valuesIn words frames constants tested equal) (depAt x))) ⌝ }
 {
-    if equal != 0 {
-        return tag_through(tags, words, frames, constants, tested, equal, x, t, beyond);
+    let r = stand(words, frames, constants, x);
+    if is_tag(tags, r, t, beyond) {
+        return true;
     }
-    let k = own(words, frames, constants, x);
-    if k.link {
-        return tag_through(tags, words, frames, constants, tested, equal, x, t, beyond);
-    }
-    is_tag(tags, k.constant, t, beyond)
-}
-
-// Whether n holds a constant that is a tag.
-fn is_listed(tags: &[u32], n: u32) -> bool
-    ensures { λ r. ⌜ (r ≡ true → (0 < n) × (n ≤ length (now (tags .entry))))
-        × (r ≡ false → (n ≡ 0) ⊎ (length (now (tags .entry)) < n)) ⌝ }
-{
-    if n == 0 {
-        return false;
-    }
-    (n as usize) <= tags.len()
+    is_tag(tags, partner(test, r), t, beyond)
 }
 
 // The record type that the known constant of x names, if it is a tag. This is asked inside a block, where nothing was tested.
@@ -430,69 +357,34 @@ pub fn known_type(
     ensures { λ r. ⌜ ((types : List ℕ)
         → r ≡ firstTag (tablesIn types tags) (constantsOf (valuesIn words frames constants 0 0) (depAt x))) ⌝ }
 {
-    let k = constant_of(words, frames, constants, x);
-    if !is_listed(tags, k) {
+    let r = stand(words, frames, constants, x);
+    if r < 256 {
         return Reference::Nothing;
     }
-    let i = (k - 1) as usize;
+    let i = (r - 256) as usize;
+    if tags.len() <= i {
+        return Reference::Nothing;
+    }
     let t = tags[i];
     Reference::To(t)
 }
 
 // ---- known 0
 
-// Whether the constant of all that chains of Same join with x is 0.
-fn chain_zero(words: &[u32; 256], frames: &[u8; 32], constants: &[u32; 32], x: u32) -> bool
-    ensures { λ r. ⌜ ((tested equal : ℕ)
-        → r ≡ some (eqb 0) (constantHeld (chainConstant (valuesIn words frames constants tested equal) (depAt x)))) ⌝ }
-{
-    constant_of(words, frames, constants, x) == 1
-}
-
-// Whether the value v is known 0, through chains and what was tested.
-fn zero_through(
-    words: &[u32; 256],
-    frames: &[u8; 32],
-    constants: &[u32; 32],
-    tested: u8,
-    equal: u32,
-    v: u8,
-) -> bool
-    ensures { λ r. ⌜ ((types tags : List ℕ)
-        → r ≡ knownZero (tablesOf types tags) (valuesIn words frames constants tested equal) v) ⌝ }
-{
-    let x = v as u32;
-    if chain_zero(words, frames, constants, x) {
-        return true;
-    }
-    if !told(words, frames, constants, tested, equal, x) {
-        return false;
-    }
-    if chain_zero(words, frames, constants, tested as u32) {
-        return true;
-    }
-    equal == 1
-}
-
-// Whether the value v is known 0. What is mostly so is asked first, as in joined.
+// Whether the value v is known 0.
 pub fn known_zero(
     words: &[u32; 256],
     frames: &[u8; 32],
     constants: &[u32; 32],
-    tested: u8,
-    equal: u32,
+    test: u64,
     v: u8,
 ) -> bool
-    ensures { λ r. ⌜ ((types tags : List ℕ)
+    ensures { λ r. ⌜ ((types tags : List ℕ) (tested equal : ℕ) → Told (valuesIn words frames constants tested equal) test
         → r ≡ knownZero (tablesOf types tags) (valuesIn words frames constants tested equal) v) ⌝ }
 {
-    if equal != 0 {
-        return zero_through(words, frames, constants, tested, equal, v);
+    let r = stand(words, frames, constants, v as u32);
+    if r == 256 {
+        return true;
     }
-    let x = v as u32;
-    let k = own(words, frames, constants, x);
-    if k.link {
-        return zero_through(words, frames, constants, tested, equal, v);
-    }
-    k.constant == 1
+    partner(test, r) == 256
 }

@@ -1,7 +1,18 @@
--- `access::put` meets its contract: the needs are found as they stand.
+-- `access::put` meets its contract: nothing was tested.
+use mathlib.Core.Path.{refl}
+use Rattle.known.proofs.Stands.{untold}
 use borrow.Author.Needs.{needs}
 use Rattle.access.proofs.put.Statement.{statement}
 use Rattle.access.proofs.put.Tie as tie
 
+element-write-fields : tie.Need-element-write-fields
+element-write-fields c = search needs
+
+row-fits-requires : tie.Need-row-fits-requires
+row-fits-requires c κs = search needs
+
+returns : tie.Need-returns
+returns c = (refl, λ types. c .row-fits .ensures types 0 0 (untold _ refl))
+
 pub put-spec : {M : Type 1} → statement M
-put-spec = tie.close (tie.spec (λ c. search needs) (λ c κs. search needs) (λ c. search needs))
+put-spec = tie.close (tie.spec element-write-fields row-fits-requires returns)

@@ -68,7 +68,7 @@ returns-4 c =
     let b = branches (l .before .before) in (
       λ P b′ leads place types views fields since base.
           c .fork .ensures .0 place types
-          ∙ fork-edges _ P place b′ _ _ _ _ leads (b .least) (b .most) _ _ _ _ (l .learn .ensures views fields since base),
+          ∙ fork-edges _ P place b′ _ _ _ _ leads (b .least) (b .most) _ _ _ _ (l .learn .ensures .0 views fields since base),
       c .fork .ensures .1,
     )
 

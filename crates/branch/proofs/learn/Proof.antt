@@ -50,10 +50,12 @@ returns c =
     let l = c .before in
     let w = l .before in
     let b = second w in
-    let o = b .before .before in
-    λ views fields since base.
-    less-tells _ _ _ _ views fields since base _ _ (tested o .a .ensures .0) (omega arith) _ _ (b .b .ensures .0) (w .wide .ensures .0) _ _
-    (l .below .ensures) (c .not-below .ensures)
+    let o = b .before .before in (
+      λ views fields since base.
+          less-tells _ _ _ _ views fields since base _ _ (tested o .a .ensures .0) (omega arith) _ _ (b .b .ensures .0) (w .wide .ensures .0) _ _
+          (l .below .ensures) (c .not-below .ensures),
+      omega arith,
+    )
 
 c-requires : tie.Need-c-requires
 c-requires c κs = search needs
@@ -77,10 +79,12 @@ returns-2 : tie.Need-returns-2
 returns-2 c =
     let i = indexed c in
     let k = constant i in
-    let o = k .before .before in
-    λ views fields since base.
-    equal-tells _ _ _ _ views fields since base _ _ (tested o .a .ensures .0) (omega arith) _ (k .c .ensures .0) _ _ (i .index .ensures .0)
-    (c .not-zero .ensures _ _)
+    let o = k .before .before in (
+      λ views fields since base.
+          equal-tells _ _ _ _ views fields since base _ _ (tested o .a .ensures .0) (omega arith) _ (k .c .ensures .0) _ _ (i .index .ensures .0)
+          (c .not-zero .ensures _ _),
+      omega arith,
+    )
 
 pub learn-spec : {M : Type 1} → statement M
 learn-spec =

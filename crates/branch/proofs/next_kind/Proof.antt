@@ -1,7 +1,9 @@
 -- `branch::next_kind` meets its contract.
+use mathlib.Core.Path.{refl}
 use native.Mathlib.Omega.{arith}
 use borrow.Author.Needs.{needs}
 use Rattle.model.proofs.Logic.{test-false, test-true}
+use Rattle.known.proofs.Stands.{untold}
 use Rattle.branch.proofs.Ends.{next-other, next-not, next-is}
 use Rattle.branch.proofs.next_kind.Statement.{statement}
 use Rattle.branch.proofs.next_kind.Tie as tie
@@ -30,7 +32,8 @@ known-equal-requires c κs = search needs
 returns-2 : tie.Need-returns-2
 returns-2 c =
     let k = c .before in
-    next-not _ _ _ _ _ _ _ _ (kind k .kind .ensures .0) (omega arith) _ (k .before .dependency .ensures) (test-false (k .known-equal .ensures) (c .if2 .taken))
+    next-not _ _ _ _ _ _ _ _ (kind k .kind .ensures .0) (omega arith) _ (k .before .dependency .ensures)
+    (test-false (k .known-equal .ensures 0 0 (untold _ refl)) (c .if2 .taken))
 
 add-with-kind : tie.Need-add-with-kind
 add-with-kind c = search needs
@@ -42,8 +45,8 @@ returns-3 : tie.Need-returns-3
 returns-3 c =
     let e = c .before in
     let k = e .before in
-    next-is _ _ _ _ _ _ _ _ (kind k .kind .ensures .0) (omega arith) _ (k .before .dependency .ensures) (test-true (k .known-equal .ensures) (e .if2 .left)) _
-    (c .with-kind .ensures)
+    next-is _ _ _ _ _ _ _ _ (kind k .kind .ensures .0) (omega arith) _ (k .before .dependency .ensures)
+    (test-true (k .known-equal .ensures 0 0 (untold _ refl)) (e .if2 .left)) _ (c .with-kind .ensures)
 
 pub next-kind-spec : {M : Type 1} → statement M
 next-kind-spec =

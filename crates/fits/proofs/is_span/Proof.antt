@@ -14,36 +14,12 @@ use Rattle.model.specs.Table.{tablesOf}
 use Rattle.model.specs.Values.{Values}
 use Rattle.model.specs.Reading.{fits}
 use Rattle.table.proofs.Questions.{test-false, test-true}
-use Rattle.known.specs.Numbers.{valuesOf}
+use Rattle.known.specs.Numbers.{valuesOf, Told}
 use Rattle.fits.specs.Fits.{meant}
 use Rattle.fits.proofs.Answers.{firsts, seconds, known-of, span-below, span-ranked}
 use borrow.Author.Needs.{needs}
 use Rattle.fits.proofs.is_span.Statement.{statement}
 use Rattle.fits.proofs.is_span.Tie as tie
-
--- ---- the values, and what is asked of them
-
-abbrev values : tie.Start → Values
-values s =
-    valuesOf (now (s .args .words)) (now (s .args .frames)) (now (s .args .constants)) (s .args .tested) (s .args .equal)
-
-abbrev names : tie.Start → List ℕ
-names s = now (s .args .names)
-
-abbrev own : tie.Start → ℕ
-own s = getD (now (s .args .words)) (s .args .v) 0
-
-abbrev fit : List ℕ → List ℕ → tie.Start → Bool
-fit types tags s = fits (tablesOf types tags) (values s) (s .args .v) (meant (names s) (s .args .w))
-
-abbrev record-alike : tie.Start → Bool
-record-alike s = eqb (recordOf (own s)) (recordOf (s .args .w))
-
-abbrev first : tie.Start → Bool
-first s = firsts (values s) (s .args .v) (s .args .w) (names s)
-
-abbrev second : tie.Start → Bool
-second s = seconds (values s) (s .args .v) (s .args .w) (names s)
 
 -- ---- places: the start, seen from past each test, and the frame that v is read in
 
@@ -56,16 +32,16 @@ start-1 c = start (c .before .before .before)
 abbrev start-2 : tie.After-frame → tie.Start
 start-2 c = start-1 (c .before .before)
 
-abbrev frame : tie.After-known-equal → tie.After-frame
+abbrev frame : tie.After-known-bound → tie.After-frame
 frame c = c .before .before .before .before .before
 
--- ---- past each test
+abbrev names : tie.Start → List ℕ
+names s = now (s .args .names)
 
-kinds-passed : (types tags : List ℕ) (c : tie.Else1)
-    → fit types tags (start (c .before)) ≡ record-alike (start (c .before)) and first (start (c .before)) and second (start (c .before))
-kinds-passed types tags c =
-    let s = start (c .before) in
-    span-ranked _ _ _ (s .args .w) (names s) (omega arith) (omega arith)
+-- ---- the record types
+
+abbrev own : tie.Start → ℕ
+own s = getD (now (s .args .words)) (s .args .v) 0
 
 own-record : (c : tie.After-record-type2) → c .before .record-type .result ≡ recordOf (own (start-1 c))
 own-record c = c .before .record-type .ensures .0
@@ -73,27 +49,50 @@ own-record c = c .before .record-type .ensures .0
 record-wanted : (c : tie.After-record-type2) → c .record-type2 .result ≡ recordOf (start-1 c .args .w)
 record-wanted c = c .record-type2 .ensures .0
 
-record-passed : (types tags : List ℕ) (c : tie.Else2)
-    → fit types tags (start-1 (c .before)) ≡ first (start-1 (c .before)) and second (start-1 (c .before))
-unfolding _and_
-record-passed types tags c =
-    let both = c .before in
-    let e : both .before .record-type .result ≡ both .record-type2 .result = omega arith in
-    kinds-passed types tags (both .before .before) ∙ rw (eq-eqb _ _ (sym (own-record both) ∙ e ∙ record-wanted both))
+abbrev record-alike : tie.Start → Bool
+record-alike s = eqb (recordOf (own s)) (recordOf (s .args .w))
 
-first-told : (c : tie.After-known-equal) → c .known-equal .result ≡ first (start-2 (frame c))
-first-told c =
-    let y = c .before in
-    let q = y .before in
-    let x = q .before in
-    let p = x .before in
-    known-of _ (names (start-2 (frame c))) _ _ _ _ _ _ _ _ (frame c .frame .ensures .0) (x .sibling .ensures)
-    (p .first-dependency .ensures .0) (y .named .ensures) (q .first-dependency2 .ensures .0) _ (c .known-equal .ensures)
+-- ---- the values, and what is asked of them past each test
 
-first-passed : (types tags : List ℕ) (c : tie.Else3) → fit types tags (start-2 (frame (c .before))) ≡ second (start-2 (frame (c .before)))
-unfolding _and_
-first-passed types tags c =
-    record-passed types tags (frame (c .before) .before) ∙ rw (test-true (first-told (c .before)) (c .if3 .left))
+module _ (types tags : List ℕ) (tested equal : ℕ) where
+  abbrev values : tie.Start → Values
+  values s = valuesOf (now (s .args .words)) (now (s .args .frames)) (now (s .args .constants)) tested equal
+
+  abbrev fit : tie.Start → Bool
+  fit s = fits (tablesOf types tags) (values s) (s .args .v) (meant (names s) (s .args .w))
+
+  abbrev first : tie.Start → Bool
+  first s = firsts (values s) (s .args .v) (s .args .w) (names s)
+
+  abbrev second : tie.Start → Bool
+  second s = seconds (values s) (s .args .v) (s .args .w) (names s)
+
+  kinds-passed : (c : tie.Else1) → fit (start (c .before)) ≡ record-alike (start (c .before)) and first (start (c .before)) and second (start (c .before))
+  kinds-passed c =
+      let s = start (c .before) in
+      span-ranked _ _ _ (s .args .w) (names s) (omega arith) (omega arith)
+
+  record-passed : (c : tie.Else2) → fit (start-1 (c .before)) ≡ first (start-1 (c .before)) and second (start-1 (c .before))
+  unfolding _and_
+  record-passed c =
+      let both = c .before in
+      let e : both .before .record-type .result ≡ both .record-type2 .result = omega arith in
+      kinds-passed (both .before .before) ∙ rw (eq-eqb _ _ (sym (own-record both) ∙ e ∙ record-wanted both))
+
+  first-told : (c : tie.After-known-bound) → Told (values (start-2 (frame c))) (start-2 (frame c) .args .test)
+      → c .known-bound .result ≡ first (start-2 (frame c))
+  first-told c told =
+      let y = c .before in
+      let q = y .before in
+      let x = q .before in
+      let p = x .before in
+      known-of _ (names (start-2 (frame c))) _ _ _ _ _ _ _ _ (frame c .frame .ensures .0) (x .sibling .ensures)
+      (p .first-dependency .ensures .0) (y .named .ensures) (q .first-dependency2 .ensures .0) _ (c .known-bound .ensures tested equal told)
+
+  first-passed : (c : tie.Else3) → Told (values (start-2 (frame (c .before)))) (start-2 (frame (c .before)) .args .test)
+      → fit (start-2 (frame (c .before))) ≡ second (start-2 (frame (c .before)))
+  unfolding _and_
+  first-passed c told = record-passed (frame (c .before) .before) ∙ rw (test-true (first-told (c .before) told) (c .if3 .left))
 
 -- ---- the needs
 
@@ -112,7 +111,7 @@ kind-requires-2 c κs = search needs
 returns : tie.Need-returns
 returns c =
     let s = start (c .before) in
-    λ types tags. span-below _ _ _ (s .args .w) (names s) (omega arith) (omega arith)
+    λ types tags tested equal told. span-below _ _ _ (s .args .w) (names s) (omega arith) (omega arith)
 
 record-type-requires : tie.Need-record-type-requires
 record-type-requires c κs = search needs
@@ -124,7 +123,7 @@ returns-2 : tie.Need-returns-2
 unfolding _and_
 returns-2 c =
     let both = c .before in
-    λ types tags. sym (kinds-passed types tags (both .before .before)
+    λ types tags tested equal told. sym (kinds-passed types tags tested equal (both .before .before)
     ∙ rw (ne-eqb _ _ (λ h. c .if2 .taken (own-record both ∙ h ∙ sym (record-wanted both)))))
 
 frame-requires : tie.Need-frame-requires
@@ -142,12 +141,14 @@ first-dependency-requires-2 c κs = search needs
 named-requires : tie.Need-named-requires
 named-requires c κs = search needs
 
-known-equal-requires : tie.Need-known-equal-requires
-known-equal-requires c κs = search needs
+known-bound-requires : tie.Need-known-bound-requires
+known-bound-requires c κs = search needs
 
 returns-3 : tie.Need-returns-3
 unfolding _and_
-returns-3 c = λ types tags. sym (record-passed types tags (frame (c .before) .before) ∙ rw (test-false (first-told (c .before)) (c .if3 .taken)))
+returns-3 c =
+    λ types tags tested equal told. sym (record-passed types tags tested equal (frame (c .before) .before)
+    ∙ rw (test-false (first-told types tags tested equal (c .before) told) (c .if3 .taken)))
 
 second-dependency-requires : tie.Need-second-dependency-requires
 second-dependency-requires c κs = search needs
@@ -161,8 +162,8 @@ second-dependency-requires-2 c κs = search needs
 named-requires-2 : tie.Need-named-requires-2
 named-requires-2 c κs = search needs
 
-known-equal-requires-2 : tie.Need-known-equal-requires-2
-known-equal-requires-2 c κs = search needs
+known-bound-requires-2 : tie.Need-known-bound-requires-2
+known-bound-requires-2 c κs = search needs
 
 returns-4 : tie.Need-returns-4
 returns-4 c =
@@ -171,9 +172,9 @@ returns-4 c =
     let x = q .before in
     let p = x .before in
     let f = frame (p .before .before) in
-    λ types tags. known-of _ (names (start-2 f)) _ _ _ _ _ _ _ _ (f .frame .ensures .0) (x .sibling2 .ensures)
-    (p .second-dependency .ensures .0) (y .named2 .ensures) (q .second-dependency2 .ensures .0) _ (c .known-equal2 .ensures)
-    ∙ sym (first-passed types tags (p .before))
+    λ types tags tested equal told. known-of _ (names (start-2 f)) _ _ _ _ _ _ _ _ (f .frame .ensures .0) (x .sibling2 .ensures)
+    (p .second-dependency .ensures .0) (y .named2 .ensures) (q .second-dependency2 .ensures .0) _ (c .known-bound2 .ensures tested equal told)
+    ∙ sym (first-passed types tags tested equal (p .before) told)
 
 pub is-span-spec : {M : Type 1} → statement M
 is-span-spec =
@@ -192,11 +193,11 @@ is-span-spec =
     sibling-requires
     first-dependency-requires-2
     named-requires
-    known-equal-requires
+    known-bound-requires
     returns-3
     second-dependency-requires
     sibling-requires-2
     second-dependency-requires-2
     named-requires-2
-    known-equal-requires-2
+    known-bound-requires-2
     returns-4)

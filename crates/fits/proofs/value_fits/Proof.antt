@@ -4,7 +4,6 @@ use mathlib.Core.List.{List}
 use Prim.Native.Nat.{ℕ}
 use native.Mathlib.Omega.{arith}
 use denote.Ref.{now}
-use Rattle.known.proofs.Answers.{equal-one}
 use Rattle.fits.proofs.Answers.{fits-any, fits-same}
 use borrow.Author.Needs.{needs}
 use Rattle.fits.proofs.value_fits.Statement.{statement}
@@ -21,7 +20,7 @@ kind-requires : tie.Need-kind-requires
 kind-requires c κs = search needs
 
 returns : tie.Need-returns
-returns c = λ types. fits-any _ _ _ _ (names (c .before)) _ (c .before .kind .ensures .0) (omega arith)
+returns c = λ types tested equal told. fits-any _ _ _ _ (names (c .before)) _ (c .before .kind .ensures .0) (omega arith)
 
 fits-pointer-requires : tie.Need-fits-pointer-requires
 fits-pointer-requires c κs = search needs
@@ -41,26 +40,20 @@ first-dependency-requires c κs = search needs
 named-requires : tie.Need-named-requires
 named-requires c κs = search needs
 
+known-equal-requires : tie.Need-known-equal-requires
+known-equal-requires c κs = search needs
+
 returns-4 : tie.Need-returns-4
 returns-4 c =
     let y = c .before in
-    λ types. fits-same _ _ _ _ (names (kind y)) _ (kind y .kind .ensures .0) _ _ (y .before .first-dependency .ensures .0) (y .named .ensures)
-    (omega arith) _ refl (omega arith) _ (equal-one _ _ _ _ _ _ _ (omega arith))
-
-joined-requires : tie.Need-joined-requires
-joined-requires c κs = search needs
-
-returns-5 : tie.Need-returns-5
-returns-5 c =
-    let y = c .before .before in
-    λ types. fits-same _ _ _ _ (names (kind y)) _ (kind y .kind .ensures .0) _ _ (y .before .first-dependency .ensures .0) (y .named .ensures)
-    (omega arith) _ refl (omega arith) _ (c .joined .ensures)
+    λ types tested equal told. fits-same _ _ _ _ (names (kind y)) _ (kind y .kind .ensures .0) _ _ (y .before .first-dependency .ensures .0)
+    (y .named .ensures) (omega arith) _ refl (omega arith) _ (c .known-equal .ensures tested equal told)
 
 is-span-requires : tie.Need-is-span-requires
 is-span-requires c κs = search needs
 
-returns-6 : tie.Need-returns-6
-returns-6 c = λ types. c .is-span .ensures types _
+returns-5 : tie.Need-returns-5
+returns-5 c = λ types tested equal told. c .is-span .ensures types _ tested equal told
 
 pub value-fits-spec : {M : Type 1} → statement M
 value-fits-spec =
@@ -74,8 +67,7 @@ value-fits-spec =
     returns-3
     first-dependency-requires
     named-requires
+    known-equal-requires
     returns-4
-    joined-requires
-    returns-5
     is-span-requires
-    returns-6)
+    returns-5)

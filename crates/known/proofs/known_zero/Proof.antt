@@ -1,40 +1,31 @@
 -- `known::known_zero` meets its contract.
+use mathlib.Core.Path.{sym, _∙_}
 use native.Mathlib.Omega.{arith}
-use Rattle.known.proofs.Answers.{constant-root, held-passes, known-untested, zero-known, zero-held}
+use borrow.Author.Tests.{eq-eqb, ne-eqb}
+use Rattle.known.proofs.Answers.{passes-stand, passes-partner, zero-known, zero-held}
 use borrow.Author.Needs.{needs}
 use Rattle.known.proofs.known_zero.Statement.{statement}
 use Rattle.known.proofs.known_zero.Tie as tie
 
-zero-through-requires : tie.Need-zero-through-requires
-zero-through-requires c κs = search needs
+stand-requires : tie.Need-stand-requires
+stand-requires c κs = search needs
 
 returns : tie.Need-returns
-returns c = search needs
+returns c =
+    let r = c .before .stand in
+    λ types tags tested equal told. zero-known _ _ _ (omega arith) _
+    (passes-stand _ _ _ _ _ _ _ _ told _ (r .ensures tested equal) (sym (zero-held (r .result)) ∙ eq-eqb (r .result) 256 (omega arith)))
 
-own-requires : tie.Need-own-requires
-own-requires c κs = search needs
-
-zero-through-requires-2 : tie.Need-zero-through-requires-2
-zero-through-requires-2 c κs = search needs
+partner-requires : tie.Need-partner-requires
+partner-requires c κs = search needs
 
 returns-2 : tie.Need-returns-2
-returns-2 c = search needs
-
-returns-3 : tie.Need-returns-3
-returns-3 c =
-    let x = c .before in
-    let (kx, rx) = x .before .own .ensures in
-    λ types tags. zero-known _ _ _ (omega arith) _
-    (known-untested _ _ _ _ _ _ _ (omega arith) _
-    (held-passes _ _ _ (constant-root _ _ _ (rx (x .if2 .left) _ _) _ (kx _ _)) _ _ (zero-held (x .before .own .result .constant))))
+returns-2 c =
+    let no = c .before in
+    let r = no .before .stand in
+    λ types tags tested equal told. zero-known _ _ _ (omega arith) _
+    (passes-partner _ _ _ _ _ _ _ _ told _ (r .ensures tested equal) (sym (zero-held (r .result)) ∙ ne-eqb (r .result) 256 (λ h. omega arith)) _
+    (c .partner .ensures) _ (zero-held (c .partner .result)))
 
 pub known-zero-spec : {M : Type 1} → statement M
-known-zero-spec =
-    tie.close
-    (tie.spec
-    zero-through-requires
-    returns
-    own-requires
-    zero-through-requires-2
-    returns-2
-    returns-3)
+known-zero-spec = tie.close (tie.spec stand-requires returns partner-requires returns-2)
