@@ -1,8 +1,8 @@
 //! Looks at the machine code of the built archive for what its speed rests on and no proof sees: `shape ARCHIVE`. It measures nothing, so
 //! load does not matter to it. Where there is no objdump it says so and passes.
 //!
-//! - What is known of a value is asked where it stands; what is rare is apart, `known::joined` for two values that are not one and
-//!   `known::far_stand` for a value that a chain starts at.
+//! - What is known of a value is asked inside the function that wants it; what is rare is a function of its own, `known::joined` for two
+//!   values that are not one and `known::far_stand` for a value that a chain starts at.
 //! - The check's loops have a function to themselves, `verify::judge`: as a part of `ramdulsi_check` they would be compiled as seldom run.
 //! - A run copies neither its registers nor a table from instruction to instruction or from block to block: no vector register is used
 //!   where control can come from opcode 6's division and go back to it. Nor does it hand two numbers on as the halves of one register:
@@ -142,15 +142,15 @@ fn running(run: &[Instruction]) -> Vec<&Instruction> {
 /// What is wrong with what is asked of known values, and what is right.
 fn split(all: &[Instruction]) -> Result<String, String> {
     let has = |name: &&str| all.iter().any(|i| i.function == *name);
-    let apart = ["known::joined", "known::far_stand"];
+    let rare = ["known::joined", "known::far_stand"];
     let inside = ["known::known_equal", "known::known_bound", "known::known_tag", "known::known_zero", "known::stand"];
-    if let Some(name) = apart.iter().find(|name| !has(name)) {
-        return Err(format!("no function {name}; expected one of its own: it is rare, and has a second caller for that"));
+    if let Some(name) = rare.iter().find(|name| !has(name)) {
+        return Err(format!("no function {name}; expected one of its own: what is rare must not be compiled into each question"));
     }
     if let Some(name) = inside.iter().find(|name| has(name)) {
-        return Err(format!("a function {name}; expected it inside its callers: it is short, and leaves what is rare to {}", apart.join(" and ")));
+        return Err(format!("a function {name}; expected it inside its callers: it is short, and leaves what is rare to {}", rare.join(" and ")));
     }
-    Ok(format!("{} are functions of their own, {} are none", apart.join(" and "), inside.join(", ")))
+    Ok(format!("{} are functions of their own, {} are none", rare.join(" and "), inside.join(", ")))
 }
 
 /// What is wrong with the check's loops, and what is right.

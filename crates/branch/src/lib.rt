@@ -110,7 +110,7 @@ fn not_below(words: &[u32; 256], frames: &[u8; 32], constants: &[u32; 32], v: u8
 }
 
 // What the edges of a branch tell of v, the value that it tests: its type word on each, and on the taken one that a value equals a
-// constant, as the constant + 1.
+// constant, as the constant + 1. The constant is a byte.
 struct EdgeFacts {
     v: u8,
     taken: u32,

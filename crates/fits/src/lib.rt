@@ -1,5 +1,5 @@
-// Whether a value fits a type, and which record a value is a reference to. Everything here only reads. What a test tells of values is the
-// number that known::test makes.
+// Whether a value fits a type, and which record a value is a reference to. Everything here only reads. The argument test
+// is what a taken opcode 11 tells, as the number that known::test makes of it; 0 where nothing was tested.
 ghost use mathlib.Core.Path.{_≡_};
 ghost use mathlib.Core.List.{List};
 ghost use Prim.Native.Nat.{ℕ, _≤_, _<_};
@@ -8,7 +8,7 @@ ghost use Rattle.model.specs.Word.{kindOf};
 ghost use Rattle.model.specs.Table.{tablesOf};
 ghost use Rattle.model.specs.Values.{typed};
 ghost use Rattle.model.specs.Reading.{isRef, isMaybe, fits, rowFits, referenceOf};
-ghost use Rattle.known.specs.Numbers.{valuesOf, tablesIn, valuesIn, depAt, Told};
+ghost use Rattle.known.specs.Numbers.{valuesOf, tablesIn, valuesIn, depAt, Paired};
 ghost use Rattle.fits.specs.Fits.{ofValue, fitsIn, meant, refers, refersOf, byRecord, byOwnTag, tagFits, placeFits};
 use model::Reference;
 
@@ -49,7 +49,7 @@ fn is_ref(
     v: u8,
     t: u32,
 ) -> bool
-    ensures { λ r. ⌜ ((types : List ℕ) (tested equal : ℕ) → Told (valuesIn words frames constants tested equal) test
+    ensures { λ r. ⌜ ((types : List ℕ) (tested equal : ℕ) → Paired (valuesIn words frames constants tested equal) test
         → r ≡ ofValue (λ 𝒯 vs. isRef 𝒯 vs t) types tags words frames constants tested equal v) ⌝ }
 {
     let by = refers_by(words, frames, v);
@@ -70,7 +70,7 @@ fn is_maybe(
     v: u8,
     t: u32,
 ) -> bool
-    ensures { λ r. ⌜ ((types : List ℕ) (tested equal : ℕ) → Told (valuesIn words frames constants tested equal) test
+    ensures { λ r. ⌜ ((types : List ℕ) (tested equal : ℕ) → Paired (valuesIn words frames constants tested equal) test
         → r ≡ ofValue (λ 𝒯 vs. isMaybe 𝒯 vs t) types tags words frames constants tested equal v) ⌝ }
 {
     let w = words[v as usize];
@@ -96,7 +96,7 @@ fn is_span(
     names: &[u8; 8],
 ) -> bool
     requires { ⌜ 6 ≤ kindOf w ⌝ }
-    ensures { λ r. ⌜ ((types tags : List ℕ) (tested equal : ℕ) → Told (valuesIn words frames constants tested equal) test
+    ensures { λ r. ⌜ ((types tags : List ℕ) (tested equal : ℕ) → Paired (valuesIn words frames constants tested equal) test
         → r ≡ fits (tablesOf types tags) (valuesIn words frames constants tested equal) v (meant (now (names .entry)) w)) ⌝ }
 {
     let own = words[v as usize];
@@ -129,7 +129,7 @@ fn fits_pointer(
     names: &[u8; 8],
 ) -> bool
     requires { ⌜ (1 ≤ kindOf w) × (kindOf w ≤ 2) ⌝ }
-    ensures { λ r. ⌜ ((types : List ℕ) (tested equal : ℕ) → Told (valuesIn words frames constants tested equal) test
+    ensures { λ r. ⌜ ((types : List ℕ) (tested equal : ℕ) → Paired (valuesIn words frames constants tested equal) test
         → r ≡ fitsIn types tags words frames constants tested equal v w names) ⌝ }
 {
     let t = word::record_type(w);
@@ -185,7 +185,7 @@ fn tag_fits(
     y: u32,
     present: bool,
 ) -> bool
-    ensures { λ r. ⌜ ((types : List ℕ) (tested equal : ℕ) → Told (valuesIn words frames constants tested equal) test
+    ensures { λ r. ⌜ ((types : List ℕ) (tested equal : ℕ) → Paired (valuesIn words frames constants tested equal) test
         → r ≡ ofValue (λ 𝒯 vs. tagFits 𝒯 vs present (depAt y)) types tags words frames constants tested equal v) ⌝ }
 {
     let own = words[v as usize];
@@ -213,7 +213,7 @@ fn fits_tagged(
     names: &[u8; 8],
 ) -> bool
     requires { ⌜ (3 ≤ kindOf w) × (kindOf w ≤ 4) ⌝ }
-    ensures { λ r. ⌜ ((types : List ℕ) (tested equal : ℕ) → Told (valuesIn words frames constants tested equal) test
+    ensures { λ r. ⌜ ((types : List ℕ) (tested equal : ℕ) → Paired (valuesIn words frames constants tested equal) test
         → r ≡ fitsIn types tags words frames constants tested equal v w names) ⌝ }
 {
     let y = known::named(names, word::first_dependency(w));
@@ -238,7 +238,7 @@ fn value_fits(
     w: u32,
     names: &[u8; 8],
 ) -> bool
-    ensures { λ r. ⌜ ((types : List ℕ) (tested equal : ℕ) → Told (valuesIn words frames constants tested equal) test
+    ensures { λ r. ⌜ ((types : List ℕ) (tested equal : ℕ) → Paired (valuesIn words frames constants tested equal) test
         → r ≡ fitsIn types tags words frames constants tested equal v w names) ⌝ }
 {
     let kind = word::kind(w);
@@ -270,7 +270,7 @@ pub fn field_fits(
     names: &[u8; 8],
 ) -> bool
     requires { ⌜ (k < 8) × (k < length (now row)) ⌝ }
-    ensures { λ r. ⌜ ((types : List ℕ) (tested equal : ℕ) → Told (valuesIn words frames constants tested equal) test
+    ensures { λ r. ⌜ ((types : List ℕ) (tested equal : ℕ) → Paired (valuesIn words frames constants tested equal) test
         → r ≡ placeFits (tablesIn types tags) (valuesIn words frames constants tested equal) (now (row .entry)) (now (names .entry)) k) ⌝ }
 {
     value_fits(
@@ -297,7 +297,7 @@ pub fn row_fits(
     names: &[u8; 8],
 ) -> bool
     requires { ⌜ (n ≤ 8) × (n ≤ length (now row)) ⌝ }
-    ensures { λ r. ⌜ ((types : List ℕ) (tested equal : ℕ) → Told (valuesIn words frames constants tested equal) test
+    ensures { λ r. ⌜ ((types : List ℕ) (tested equal : ℕ) → Paired (valuesIn words frames constants tested equal) test
         → r ≡ rowFits (tablesIn types tags) (valuesIn words frames constants tested equal) n (now (row .entry)) (now (names .entry))) ⌝ }
 {
     let mut i = 0;

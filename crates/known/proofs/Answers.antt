@@ -17,11 +17,11 @@ use Rattle.model.specs.Reading.{tagOf, beyond, knownZero, firstTag}
 use Rattle.model.specs.declared.Reference.{Reference}
 use Rattle.model.specs.declared.Reference.the-variants.{To, Nothing}
 use Rattle.model.proofs.Logic.{byTest, byEqual, or-of-true, true-and}
-use Rattle.model.proofs.Joined.{dep-same}
-use Rattle.known.specs.Numbers.{valuesOf, depAt, stand, Told, partnerOf, servesAsTag}
+use Rattle.model.proofs.Joined.{dep-same, told-nothing}
+use Rattle.known.specs.Numbers.{valuesOf, depAt, stand, Paired, partnerOf, servesAsTag}
 use Rattle.known.proofs.Numbers.{dep-name, dep-constant, or-false, held-is, held-name, held-constant, some-constant}
 use Rattle.known.proofs.Numbers.{type-any, type-ref, type-maybe, type-tagged, type-present, type-same, type-span, byKind}
-use Rattle.known.proofs.Stands.{told-nothing, constant-by, equal-by, passes-by}
+use Rattle.known.proofs.Stands.{constant-by, equal-by, passes-by}
 
 -- ---- known constants
 
@@ -52,10 +52,10 @@ module _ (vs : Values) (x : ℕ) where
     unfolding typed
     constant-typed n s es = rw (dep-name x h, ne-eqb (getD (vs .words) x 0) 0 n) (es (λ i. getD (vs .frames) (birthplace x) 0 + i))
 
--- r stands for x
-constant-root : (vs : Values) (x r : ℕ) → depAt r ≡ rootOf vs (depAt x) → (k : ℕ) → k ≡ heldAt vs (depAt r) → k ≡ chainConstant vs (depAt x)
+-- x is its own root
+constant-root : (vs : Values) (x : ℕ) → depAt x ≡ rootOf vs (depAt x) → (k : ℕ) → k ≡ heldAt vs (depAt x) → k ≡ chainConstant vs (depAt x)
 unfolding chainConstant
-constant-root vs x r er k ek = rw (← er) ek
+constant-root vs x ex k ek = rw (← ex) ek
 
 -- ---- known equal
 
@@ -79,17 +79,17 @@ module _ (words frames constants : List ℕ) (tested equal x y : ℕ) where
       → 0 < k → k ≡ l → true ≡ equal-xy
   unfolding alike oneConstant
   equal-constants k l ek rx el ry h e =
-      equal-alike (or-of-true _ _ (rw (← constant-root vs x x rx k ek, ← constant-root vs y y ry l el) (true-and _ _ (le-leb 1 k h) (eq-eqb k l e))))
+      equal-alike (or-of-true _ _ (rw (← constant-root vs x rx k ek, ← constant-root vs y ry l el) (true-and _ _ (le-leb 1 k h) (eq-eqb k l e))))
 
   -- r and s stand for x and y
-  module _ (test : ℕ) (known : Told vs test) (r s : ℕ) (er : depAt r ≡ stand vs (depAt x)) (es : depAt s ≡ stand vs (depAt y)) where
+  module _ (test : ℕ) (paired : Paired vs test) (r s : ℕ) (er : depAt r ≡ stand vs (depAt x)) (es : depAt s ≡ stand vs (depAt y)) where
     pub equal-stand : r ≡ s → true ≡ equal-xy
     unfolding knownEqual _or_
-    equal-stand e = sym (equal-by vs test known (depAt x) r er (depAt y) s es ∙ rw (eq-eqb r s e))
+    equal-stand e = sym (equal-by vs test paired (depAt x) r er (depAt y) s es ∙ rw (eq-eqb r s e))
 
     pub equal-partner : (r ≡ s → ⊥) → (p : ℕ) → p ≡ partnerOf test r → eqb p s ≡ equal-xy
     unfolding knownEqual _or_
-    equal-partner n p ep = sym (equal-by vs test known (depAt x) r er (depAt y) s es ∙ rw (ne-eqb r s n, ← ep))
+    equal-partner n p ep = sym (equal-by vs test paired (depAt x) r er (depAt y) s es ∙ rw (ne-eqb r s n, ← ep))
 
 -- ---- tags
 
@@ -127,15 +127,15 @@ module _ (words frames constants : List ℕ) (tested equal x : ℕ) (f : ℕ →
   abbrev passing : Bool
   passing = some f (constantsOf us (depAt x))
 
-  module _ (test : ℕ) (known : Told us test) (r : ℕ) (er : depAt r ≡ stand us (depAt x)) where
+  module _ (test : ℕ) (paired : Paired us test) (r : ℕ) (er : depAt r ≡ stand us (depAt x)) where
     pub passes-stand : some f (constantHeld (r - 255)) ≡ true → true ≡ passing
     unfolding constantsOf _or_
-    passes-stand e = sym (passes-by f us test known (depAt x) r er ∙ rw e)
+    passes-stand e = sym (passes-by f us test paired (depAt x) r er ∙ rw e)
 
     pub passes-partner : some f (constantHeld (r - 255)) ≡ false → (p : ℕ) → p ≡ partnerOf test r
         → (b : Bool) → b ≡ some f (constantHeld (p - 255)) → b ≡ passing
     unfolding constantsOf _or_
-    passes-partner n p ep b eb = eb ∙ sym (passes-by f us test known (depAt x) r er ∙ rw (n, ← ep))
+    passes-partner n p ep b eb = eb ∙ sym (passes-by f us test paired (depAt x) r er ∙ rw (n, ← ep))
 
 -- known 0 is a test of the constants of a value
 pub zero-known : (𝒯 : Tables) (vs : Values) (x : ℕ) → x < 256 → (b : Bool) → b ≡ some (eqb 0) (constantsOf vs (depAt x)) → b ≡ knownZero 𝒯 vs x

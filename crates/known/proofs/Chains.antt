@@ -1,4 +1,4 @@
--- Chains of Same as the code follows them: a step, the steps that are left, and what stands for a dependency.
+-- Chains of Same as the code follows them: a step, the steps that are left, and the root of a dependency.
 use mathlib.Core.Path.{_≡_, sym, _∙_}
 use mathlib.Core.Bool.{true}
 use Prim.Native.Nat.{ℕ, suc, _+_, _-_, _/_, _<_, _≤_}
@@ -91,7 +91,7 @@ module _ (vs : Values) (v n x : ℕ) (e : along vs n x ≡ along vs 7 v) where
   unfolding root along
   root-circles z = let here : x ≡ along vs 7 v = rw z at e in rw here
 
--- what stands for x
+-- the root of x
 module _ (vs : Values) (x : ℕ) where
   pub root-constant : 256 ≤ x → depAt x ≡ rootOf vs (depAt x)
   root-constant h = rw (dep-constant x h)

@@ -148,11 +148,11 @@ held-is (suc d) c =
 
 -- the constant that k holds, as a dependency, or x
 module _ (k x : ℕ) where
-  pub or-none : k ≡ 0 → x ≡ constantOr k x
-  or-none e = rw e
+  pub constant-or-none : k ≡ 0 → x ≡ constantOr k x
+  constant-or-none e = rw e
 
-  pub or-constant : (k ≡ 0 → ⊥) → k + 255 ≡ constantOr k x
-  or-constant n = rw (ne-eqb k 0 n)
+  pub constant-or-held : (k ≡ 0 → ⊥) → k + 255 ≡ constantOr k x
+  constant-or-held n = rw (ne-eqb k 0 n)
 
 -- the one of the two that a test joins for the other
 module _ (test r : ℕ) where

@@ -11,8 +11,8 @@ use Rattle.model.specs.Types.{Dep, name, con}
 use Rattle.model.specs.Values.{Values, constantHeld, some, sameDep, rootOf, heldAt, chainConstant, oneConstant, alike, told}
 use Rattle.model.specs.Values.{toldConstants, constantsJoined, equalJoined}
 use Rattle.model.proofs.Logic.{byTest, byEqual, byLess}
-use Rattle.model.proofs.Joined.{same-dep, dep-same}
-use Rattle.known.specs.Numbers.{depAt, constantOr, standBy, stand, Told, partnerOf}
+use Rattle.model.proofs.Joined.{same-dep, dep-same, told-nothing}
+use Rattle.known.specs.Numbers.{depAt, constantOr, standBy, stand, Paired, partnerIn, partnerOf}
 use Rattle.known.proofs.Numbers.{dep-name, dep-constant, same-numbers, some-both, or-false}
 
 -- ---- what stands for x
@@ -72,12 +72,8 @@ module _ (vs : Values) where
 
 -- ---- what a test tells
 
-pub untold : (vs : Values) → vs .equal ≡ 0 → Told vs 0
-untold vs e = (λ h. refl, λ h. absurd (omega arith))
-
-pub told-nothing : (vs : Values) (x : Dep) → vs .equal ≡ 0 → told vs x ≡ false
-unfolding told _and_
-told-nothing vs x e = rw e
+pub paired-nothing : (vs : Values) → vs .equal ≡ 0 → Paired vs 0
+paired-nothing vs e = (λ h. refl, λ h. absurd (omega arith))
 
 module _ (vs : Values) (x : Dep) (r : ℕ) (er : depAt r ≡ stand vs x) where
   pub constant-by : chainConstant vs x ≡ r - 255
@@ -97,7 +93,7 @@ module _ (vs : Values) (x : Dep) (r : ℕ) (er : depAt r ≡ stand vs x) where
 -- ---- known equal
 
 -- two that a test joins: r and s are one, or both are of the two
-partners : (a b r s : ℕ) → eqb r s or ((eqb r a or eqb r b) and (eqb s a or eqb s b)) ≡ eqb r s or eqb (pick (eqb r a) b (pick (eqb r b) a r)) s
+partners : (a b r s : ℕ) → eqb r s or ((eqb r a or eqb r b) and (eqb s a or eqb s b)) ≡ eqb r s or eqb (partnerIn a b r) s
 unfolding _and_ _or_
 partners a b r s =
     byEqual r s (λ e. rw (eq-eqb r s e))
@@ -110,21 +106,20 @@ partners a b r s =
     (λ nb. rw (ne-eqb r s n, ne-eqb r a na, ne-eqb r b nb, ne-eqb r s n))))
 
 -- r stands for x
-module _ (vs : Values) (test : ℕ) (known : Told vs test) (x : Dep) (r : ℕ) (er : depAt r ≡ stand vs x) where
-  -- nothing was tested, or something was
-  untested : vs .equal ≡ 0 → partnerOf test r ≡ r
+module _ (vs : Values) (test : ℕ) (paired : Paired vs test) (x : Dep) (r : ℕ) (er : depAt r ≡ stand vs x) where
+  partner-untested : vs .equal ≡ 0 → partnerOf test r ≡ r
   unfolding partnerOf
-  untested e = let z = known .0 e in rw z (byEqual r 0 (λ q. rw q) (λ n. rw (ne-eqb r 0 n)))
+  partner-untested e = let z = paired .0 e in rw z (byEqual r 0 (λ q. rw q) (λ n. rw (ne-eqb r 0 n)))
 
   told-is : 0 < vs .equal → told vs x ≡ eqb r (test / 512) or eqb r (test % 512)
-  told-is h = let (ea, eb) = known .1 h in told-by vs x r er (test / 512) (test % 512) h ea eb
+  told-is h = let (ea, eb) = paired .1 h in told-by vs x r er (test / 512) (test % 512) h ea eb
 
   pub equal-by : (y : Dep) (s : ℕ) → depAt s ≡ stand vs y → equalJoined vs x y ≡ eqb r s or eqb (partnerOf test r) s
   unfolding equalJoined partnerOf _and_ _or_
   equal-by y s es =
       byEqual (vs .equal) 0
-      (λ e. rw (alike-by vs x r er y s es, told-nothing vs x e, untested e) (byTest (eqb r s) (λ q. rw q) (λ q. rw q)))
-      (λ n. let (ea, eb) = known .1 (omega arith) in
+      (λ e. rw (alike-by vs x r er y s es, told-nothing vs x e, partner-untested e) (byTest (eqb r s) (λ q. rw q) (λ q. rw q)))
+      (λ n. let (ea, eb) = paired .1 (omega arith) in
       rw (alike-by vs x r er y s es, told-is (omega arith), told-by vs y s es (test / 512) (test % 512) (omega arith) ea eb)
       (partners (test / 512) (test % 512) r s))
 
@@ -136,7 +131,7 @@ module _ (f : ℕ → Bool) where
   passes n = some f (constantHeld (n - 255))
 
   serving : (a b r : ℕ) → passes r or some f (pick (eqb r a or eqb r b) (constantHeld (a - 255) ++ constantHeld (b - 255)) [])
-      ≡ passes r or passes (pick (eqb r a) b (pick (eqb r b) a r))
+      ≡ passes r or passes (partnerIn a b r)
   unfolding some _or_
   serving a b r =
       byEqual r a
@@ -147,15 +142,15 @@ module _ (f : ℕ → Bool) where
       (λ nb. rw (ne-eqb r a na, ne-eqb r b nb) (byTest (passes r) (λ q. rw q) (λ q. rw q))))
 
   -- r stands for x
-  module _ (vs : Values) (test : ℕ) (known : Told vs test) (x : Dep) (r : ℕ) (er : depAt r ≡ stand vs x) where
+  module _ (vs : Values) (test : ℕ) (paired : Paired vs test) (x : Dep) (r : ℕ) (er : depAt r ≡ stand vs x) where
     pub passes-by : some f (constantsJoined vs x) ≡ passes r or passes (partnerOf test r)
     unfolding constantsJoined partnerOf some _or_
     passes-by =
         some-both f (constantHeld (chainConstant vs x)) (pick (told vs x) (toldConstants vs) [])
         ∙ rw (constant-by vs x r er)
         (byEqual (vs .equal) 0
-        (λ e. rw (told-nothing vs x e, untested vs test known x r er e) (byTest (passes r) (λ q. rw q) (λ q. rw q)))
-        (λ n. let (ea, eb) = known .1 (omega arith) in
+        (λ e. rw (told-nothing vs x e, partner-untested vs test paired x r er e) (byTest (passes r) (λ q. rw q) (λ q. rw q)))
+        (λ n. let (ea, eb) = paired .1 (omega arith) in
         let z : vs .equal ≡ test % 512 - 255 = omega arith in
-        rw (told-is vs test known x r er (omega arith), constant-by vs (name (vs .tested)) (test / 512) ea, z)
+        rw (told-is vs test paired x r er (omega arith), constant-by vs (name (vs .tested)) (test / 512) ea, z)
         (serving (test / 512) (test % 512) r)))

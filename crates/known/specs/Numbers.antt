@@ -60,15 +60,18 @@ standBy (suc c) r = con c
 unfoldable pub stand : Values → Dep → Dep
 stand vs x = standBy (chainConstant vs x) (rootOf vs x)
 
--- A test makes two known equal: what stands for the value tested, and the constant. One number has both, 512 times the first and the
--- second, and is 0 where nothing was tested.
-abbrev pub Told : Values → ℕ → Type 0
-Told vs test =
+-- A test makes two known equal: what stands for the value tested, and the constant. One number has both, the second added to 512 times the
+-- first, and is 0 where nothing was tested.
+abbrev pub Paired : Values → ℕ → Type 0
+Paired vs test =
     (vs .equal ≡ 0 → test ≡ 0) × (0 < vs .equal → (depAt (test / 512) ≡ stand vs (name (vs .tested))) × (test % 512 ≡ vs .equal + 255))
 
--- the one of the two for the other, and r for any other
+-- the one of two for the other, and r for any other
+abbrev pub partnerIn : ℕ → ℕ → ℕ → ℕ
+partnerIn a b r = pick (eqb r a) b (pick (eqb r b) a r)
+
 unfoldable pub partnerOf : ℕ → ℕ → ℕ
-partnerOf test r = pick (eqb r (test / 512)) (test % 512) (pick (eqb r (test % 512)) (test / 512) r)
+partnerOf test r = partnerIn (test / 512) (test % 512) r
 
 -- 01: 'a tag of T or beyond the table'; or a tag of T alone
 abbrev pub servesAsTag : Bool → Tables → ℕ → ℕ → Bool

@@ -1,7 +1,7 @@
 // What the reading of a block knows of its values: frames, dependencies, chains of Same, known constants, known equal, known tags.
 // Everything here only reads.
 //
-// A value is a name below 256; a dependency is a name, or 256 and a constant. A constant c is held as c + 1, and 0 is none.
+// A value is a name below 256; a dependency is a name, or 256 + c for the constant c. A constant c is held as c + 1, and 0 is none.
 ghost use mathlib.Core.Path.{_≡_};
 ghost use mathlib.Core.List.{List};
 ghost use mathlib.Core.Bool.{true, false};
@@ -10,11 +10,15 @@ ghost use lib.ListN.{getD};
 ghost use Rattle.model.specs.Table.{tablesOf};
 ghost use Rattle.model.specs.Values.{birthplace, lead, leastAlong, root, rootOf, heldAt, alike, constantHeld, constantsOf, some, knownEqual};
 ghost use Rattle.model.specs.Reading.{knownZero, firstTag};
-ghost use Rattle.known.specs.Numbers.{framesOf, valuesOf, tablesIn, valuesIn, depAt, siblingOf, namedOf, constantOr, stand, partnerOf, Told, servesAsTag};
+ghost use Rattle.known.specs.Numbers.{framesOf, valuesOf, tablesIn, valuesIn, depAt, siblingOf, namedOf};
+ghost use Rattle.known.specs.Numbers.{constantOr, stand, Paired, partnerOf, servesAsTag};
 use model::Reference;
 
 // Eight values are born together, so that a chain of Same among them ends, or comes to a circle, within so many steps.
 const STEPS: u32 = 7;
+
+// What a test tells goes as one number, of two in its two places. The constant tested is a byte, and as a dependency below this.
+const PLACE: u64 = 512;
 
 // ---- dependencies
 
@@ -162,7 +166,7 @@ fn own_constant(words: &[u32; 256], constants: &[u32; 32], x: u32) -> u32
     d - 7
 }
 
-// The constant that k holds, or x where it holds none.
+// The constant that k holds, or x where it holds none. Whatever 32 bits k is, this has room for it.
 fn constant_or(k: u32, x: u32) -> u64
     ensures { λ r. ⌜ (r ≡ constantOr k x) × (r < 4294967551) ⌝ }
 {
@@ -172,8 +176,8 @@ fn constant_or(k: u32, x: u32) -> u64
     k as u64 + 255
 }
 
-// What stands for a value, by the root of its chain. It is called from two places, and so stays a function of its own when compiled, out
-// of the way of the many values that no chain starts at.
+// What stands for a value, by the root of its chain. It has two callers, and so stays a function of its own when compiled, out of the way
+// of the many values that no chain starts at.
 fn far_stand(words: &[u32; 256], frames: &[u8; 32], constants: &[u32; 32], v: u32) -> u64
     requires { ⌜ v < 256 ⌝ }
     ensures { λ r. ⌜ ((tested equal : ℕ) → depAt r ≡ stand (valuesIn words frames constants tested equal) (depAt v))
@@ -197,7 +201,7 @@ fn stand(words: &[u32; 256], frames: &[u8; 32], constants: &[u32; 32], x: u32) -
 // ---- what a test tells
 
 // A taken opcode 11 tests a value against the constant that equal holds, and so makes two known equal: what stands for the value, and the
-// constant. Both go as one number, 512 times the first and the second, since every question is handed it; 0 where nothing was tested.
+// constant. Both go as one number, 0 where nothing was tested: with two, each question would hand on an argument more.
 pub fn test(
     words: &[u32; 256],
     frames: &[u8; 32],
@@ -206,20 +210,20 @@ pub fn test(
     equal: u32,
 ) -> u64
     requires { ⌜ equal ≤ 256 ⌝ }
-    ensures { λ r. ⌜ Told (valuesIn words frames constants tested equal) r ⌝ }
+    ensures { λ r. ⌜ Paired (valuesIn words frames constants tested equal) r ⌝ }
 {
     if equal == 0 {
         return 0;
     }
-    far_stand(words, frames, constants, tested as u32) * 512 + equal as u64 + 255
+    far_stand(words, frames, constants, tested as u32) * PLACE + equal as u64 + 255
 }
 
 // What a test makes known equal to r: the one of its two for the other, and r itself for all else.
 fn partner(test: u64, r: u64) -> u64
     ensures { λ s. ⌜ s ≡ partnerOf test r ⌝ }
 {
-    let value = test / 512;
-    let constant = test % 512;
+    let value = test / PLACE;
+    let constant = test % PLACE;
     if r == value {
         return constant;
     }
@@ -242,8 +246,8 @@ fn leads_to(words: &[u32; 256], frames: &[u8; 32], x: u32, y: u32) -> bool
     lead(words, frames, x) == y
 }
 
-// Whether x and y, which are mostly not one, are known equal. A link from x to y is asked first, since most links are so asked for. It is
-// called from two places, and so stays a function of its own when compiled.
+// Whether x and y are known equal, asked where they are not one. A link from x to y comes first, since most questions about a link name
+// its two ends. It has two callers, and so stays a function of its own when compiled.
 fn joined(
     words: &[u32; 256],
     frames: &[u8; 32],
@@ -252,7 +256,7 @@ fn joined(
     x: u32,
     y: u32,
 ) -> bool
-    ensures { λ r. ⌜ ((tested equal : ℕ) → Told (valuesIn words frames constants tested equal) test
+    ensures { λ r. ⌜ ((tested equal : ℕ) → Paired (valuesIn words frames constants tested equal) test
         → r ≡ knownEqual (valuesIn words frames constants tested equal) (depAt x) (depAt y)) ⌝ }
 {
     if leads_to(words, frames, x, y) {
@@ -275,7 +279,7 @@ pub fn known_equal(
     x: u32,
     y: u32,
 ) -> bool
-    ensures { λ r. ⌜ ((tested equal : ℕ) → Told (valuesIn words frames constants tested equal) test
+    ensures { λ r. ⌜ ((tested equal : ℕ) → Paired (valuesIn words frames constants tested equal) test
         → r ≡ knownEqual (valuesIn words frames constants tested equal) (depAt x) (depAt y)) ⌝ }
 {
     if x == y {
@@ -284,7 +288,7 @@ pub fn known_equal(
     joined(words, frames, constants, test, x, y)
 }
 
-// Whether x and y, bounds of runs, are known equal. Most that are not one value have a constant of their own, and that is asked next.
+// The same as known_equal, for the bounds of runs: it asks own constants before joined, since most bounds that are not one value have them.
 pub fn known_bound(
     words: &[u32; 256],
     frames: &[u8; 32],
@@ -293,7 +297,7 @@ pub fn known_bound(
     x: u32,
     y: u32,
 ) -> bool
-    ensures { λ r. ⌜ ((tested equal : ℕ) → Told (valuesIn words frames constants tested equal) test
+    ensures { λ r. ⌜ ((tested equal : ℕ) → Paired (valuesIn words frames constants tested equal) test
         → r ≡ knownEqual (valuesIn words frames constants tested equal) (depAt x) (depAt y)) ⌝ }
 {
     if x == y {
@@ -336,7 +340,7 @@ pub fn known_tag(
     t: u32,
     beyond: bool,
 ) -> bool
-    ensures { λ r. ⌜ ((types : List ℕ) (tested equal : ℕ) → Told (valuesIn words frames constants tested equal) test
+    ensures { λ r. ⌜ ((types : List ℕ) (tested equal : ℕ) → Paired (valuesIn words frames constants tested equal) test
         → r ≡ some (servesAsTag beyond (tablesIn types tags) t) (constantsOf (valuesIn words frames constants tested equal) (depAt x))) ⌝ }
 {
     let r = stand(words, frames, constants, x);
@@ -379,7 +383,7 @@ pub fn known_zero(
     test: u64,
     v: u8,
 ) -> bool
-    ensures { λ r. ⌜ ((types tags : List ℕ) (tested equal : ℕ) → Told (valuesIn words frames constants tested equal) test
+    ensures { λ r. ⌜ ((types tags : List ℕ) (tested equal : ℕ) → Paired (valuesIn words frames constants tested equal) test
         → r ≡ knownZero (tablesOf types tags) (valuesIn words frames constants tested equal) v) ⌝ }
 {
     let r = stand(words, frames, constants, v as u32);

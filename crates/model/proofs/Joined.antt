@@ -1,7 +1,7 @@
 -- Known equal through chains: the tests of Values decide the rules of card 13.
 use mathlib.Core.Path.{_≡_, refl, sym, ap, _∙_}
 use mathlib.Core.Logic.{_⊎_, inl, inr}
-use mathlib.Core.Bool.{true, false≢true}
+use mathlib.Core.Bool.{true, false, false≢true}
 use mathlib.Core.List.{List, []}
 use Prim.Native.Nat.{ℕ, zero, suc, _≤_}
 use native.Mathlib.Omega.{arith}
@@ -31,6 +31,11 @@ pub dep-same : (x : Dep) → sameDep x x ≡ true
 unfolding sameDep
 dep-same (name v) = eq-eqb v v refl
 dep-same (con c) = eq-eqb c c refl
+
+-- where nothing was tested
+pub told-nothing : (vs : Values) (x : Dep) → vs .equal ≡ 0 → told vs x ≡ false
+unfolding told _and_
+told-nothing vs x e = rw e
 
 pub no-member : (c : ℕ) → Member c [] → ⊥
 no-member c = elim [ ]

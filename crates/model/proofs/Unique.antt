@@ -20,7 +20,7 @@ use Rattle.model.specs.Check.{readInstruction, readingAt, readEnd, noAt}
 use Rattle.model.proofs.Logic.{byTest, either, ask-ok, then-ok, passed-then, ok-same, not-ok, not-true}
 use Rattle.model.proofs.Lists.{Member, first, later, member-split}
 use Rattle.model.proofs.KnownValues.{held-is, knownOf}
-use Rattle.model.proofs.Joined.{no-member, constant-joined}
+use Rattle.model.proofs.Joined.{no-member, told-nothing, constant-joined}
 use Rattle.model.proofs.RulesDecide.{Chained, constant-known, known-constant}
 use Rattle.model.proofs.Tidy.{TidyValues, Tidy, tidy-on, plain-tidy, entry-tidy}
 use Rattle.model.proofs.Rows.{eight-words, words-eight}
@@ -58,8 +58,7 @@ module _ (𝒯 : Tables) (vs : Values) where
 
     -- inside a block no taken opcode 11 has told anything
     untold : (x : Dep) → told vs x ≡ false
-    unfolding told _and_
-    untold x = rw (T .untested)
+    untold x = told-nothing vs x (T .untested)
 
     -- so all that is known equal has one constant at most
     chain-constant : (x : Dep) (c : ℕ) → Constant 𝒯 (knownOf vs) x c → chainConstant vs x ≡ suc c

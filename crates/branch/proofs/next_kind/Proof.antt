@@ -3,7 +3,7 @@ use mathlib.Core.Path.{refl}
 use native.Mathlib.Omega.{arith}
 use borrow.Author.Needs.{needs}
 use Rattle.model.proofs.Logic.{test-false, test-true}
-use Rattle.known.proofs.Stands.{untold}
+use Rattle.known.proofs.Stands.{paired-nothing}
 use Rattle.branch.proofs.Ends.{next-other, next-not, next-is}
 use Rattle.branch.proofs.next_kind.Statement.{statement}
 use Rattle.branch.proofs.next_kind.Tie as tie
@@ -33,7 +33,7 @@ returns-2 : tie.Need-returns-2
 returns-2 c =
     let k = c .before in
     next-not _ _ _ _ _ _ _ _ (kind k .kind .ensures .0) (omega arith) _ (k .before .dependency .ensures)
-    (test-false (k .known-equal .ensures 0 0 (untold _ refl)) (c .if2 .taken))
+    (test-false (k .known-equal .ensures 0 0 (paired-nothing _ refl)) (c .if2 .taken))
 
 add-with-kind : tie.Need-add-with-kind
 add-with-kind c = search needs
@@ -46,7 +46,7 @@ returns-3 c =
     let e = c .before in
     let k = e .before in
     next-is _ _ _ _ _ _ _ _ (kind k .kind .ensures .0) (omega arith) _ (k .before .dependency .ensures)
-    (test-true (k .known-equal .ensures 0 0 (untold _ refl)) (e .if2 .left)) _ (c .with-kind .ensures)
+    (test-true (k .known-equal .ensures 0 0 (paired-nothing _ refl)) (e .if2 .left)) _ (c .with-kind .ensures)
 
 pub next-kind-spec : {M : Type 1} → statement M
 next-kind-spec =

@@ -17,7 +17,7 @@ value-fits-requires : tie.Need-value-fits-requires
 value-fits-requires c κs = search needs
 
 returns : tie.Need-returns
-returns c = λ types tested equal told. place-is _ _ _ _ _ _ (c .value-fits .ensures types tested equal told)
+returns c = λ types tested equal paired. place-is _ _ _ _ _ _ (c .value-fits .ensures types tested equal paired)
 
 pub field-fits-spec : {M : Type 1} → statement M
 field-fits-spec =

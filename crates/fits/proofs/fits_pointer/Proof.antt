@@ -24,8 +24,8 @@ returns : tie.Need-returns
 returns c =
     let ref = c .before in
     let s = start ref in
-    λ types tested equal told. fits-is-ref _ _ _ (s .args .w) (now (s .args .names)) _ refl _ (ref .before .record-type .ensures .0) (omega arith)
-    (omega arith) (sym (ref .is-ref .ensures types tested equal told) ∙ c .if1 .taken)
+    λ types tested equal paired. fits-is-ref _ _ _ (s .args .w) (now (s .args .names)) _ refl _ (ref .before .record-type .ensures .0) (omega arith)
+    (omega arith) (sym (ref .is-ref .ensures types tested equal paired) ∙ c .if1 .taken)
 
 kind-requires : tie.Need-kind-requires
 kind-requires c κs = search needs
@@ -34,8 +34,8 @@ returns-2 : tie.Need-returns-2
 returns-2 c =
     let no = c .before .before in
     let ref = no .before in
-    λ types tested equal told. fits-ref _ _ _ _ (now (start ref .args .names)) _ (c .before .kind .ensures .0) _ (ref .before .record-type .ensures .0)
-    (sym (ref .is-ref .ensures types tested equal told) ∙ no .if1 .left) (omega arith)
+    λ types tested equal paired. fits-ref _ _ _ _ (now (start ref .args .names)) _ (c .before .kind .ensures .0) _ (ref .before .record-type .ensures .0)
+    (sym (ref .is-ref .ensures types tested equal paired) ∙ no .if1 .left) (omega arith)
 
 known-zero-requires : tie.Need-known-zero-requires
 known-zero-requires c κs = search needs
@@ -45,9 +45,9 @@ returns-3 c =
     let zero = c .before in
     let no = no-ref zero in
     let ref = no .before in
-    λ types tested equal told. fits-zero _ _ _ _ (now (start ref .args .names)) _ (zero .before .before .kind .ensures .0) _
-    (ref .before .record-type .ensures .0) (sym (ref .is-ref .ensures types tested equal told) ∙ no .if1 .left) (omega arith)
-    (sym (zero .known-zero .ensures types _ tested equal told) ∙ c .if3 .taken)
+    λ types tested equal paired. fits-zero _ _ _ _ (now (start ref .args .names)) _ (zero .before .before .kind .ensures .0) _
+    (ref .before .record-type .ensures .0) (sym (ref .is-ref .ensures types tested equal paired) ∙ no .if1 .left) (omega arith)
+    (sym (zero .known-zero .ensures types _ tested equal paired) ∙ c .if3 .taken)
 
 is-maybe-requires : tie.Need-is-maybe-requires
 is-maybe-requires c κs = search needs
@@ -57,9 +57,9 @@ returns-4 c =
     let zero = c .before .before in
     let no = no-ref zero in
     let ref = no .before in
-    λ types tested equal told. fits-maybe _ _ _ _ (now (start ref .args .names)) _ (zero .before .before .kind .ensures .0) _
-    (ref .before .record-type .ensures .0) (sym (ref .is-ref .ensures types tested equal told) ∙ no .if1 .left) (omega arith)
-    (sym (zero .known-zero .ensures types _ tested equal told) ∙ c .before .if3 .left) _ (c .is-maybe .ensures types tested equal told)
+    λ types tested equal paired. fits-maybe _ _ _ _ (now (start ref .args .names)) _ (zero .before .before .kind .ensures .0) _
+    (ref .before .record-type .ensures .0) (sym (ref .is-ref .ensures types tested equal paired) ∙ no .if1 .left) (omega arith)
+    (sym (zero .known-zero .ensures types _ tested equal paired) ∙ c .before .if3 .left) _ (c .is-maybe .ensures types tested equal paired)
 
 pub fits-pointer-spec : {M : Type 1} → statement M
 fits-pointer-spec =

@@ -34,16 +34,16 @@ returns c =
     let k = c .before .before in
     let y = k .before in
     let byte = y .before in
-    λ types tested equal told. fits-tag _ _ _ _ (names byte) _ (k .kind .ensures .0) _ _ (byte .first-dependency .ensures .0) (y .named .ensures) (omega arith)
-    (omega arith) (sym (c .before .tag-fits .ensures types tested equal told) ∙ c .if1 .taken)
+    λ types tested equal paired. fits-tag _ _ _ _ (names byte) _ (k .kind .ensures .0) _ _ (byte .first-dependency .ensures .0)
+    (y .named .ensures) (omega arith) (omega arith) (sym (c .before .tag-fits .ensures types tested equal paired) ∙ c .if1 .taken)
 
 returns-2 : tie.Need-returns-2
 returns-2 c =
     let past = c .before in
     let y = kind past .before in
     let byte = y .before in
-    λ types tested equal told. fits-present _ _ _ _ (names byte) _ (kind past .kind .ensures .0) _ _ (byte .first-dependency .ensures .0) (y .named .ensures)
-    (omega arith) (omega arith) (sym (past .before .tag-fits .ensures types tested equal told) ∙ past .if1 .left) (c .if2 .taken)
+    λ types tested equal paired. fits-present _ _ _ _ (names byte) _ (kind past .kind .ensures .0) _ _ (byte .first-dependency .ensures .0) (y .named .ensures)
+    (omega arith) (omega arith) (sym (past .before .tag-fits .ensures types tested equal paired) ∙ past .if1 .left) (c .if2 .taken)
 
 known-zero-requires : tie.Need-known-zero-requires
 known-zero-requires c κs = search needs
@@ -54,9 +54,9 @@ returns-3 c =
     let past = zero .before in
     let y = kind past .before in
     let byte = y .before in
-    λ types tested equal told. fits-tagged _ _ _ _ (names byte) _ (kind past .kind .ensures .0) _ _ (byte .first-dependency .ensures .0) (y .named .ensures)
-    (omega arith) (omega arith) (sym (past .before .tag-fits .ensures types tested equal told) ∙ past .if1 .left) (zero .if2 .left) _
-    (c .known-zero .ensures types _ tested equal told)
+    λ types tested equal paired. fits-tagged _ _ _ _ (names byte) _ (kind past .kind .ensures .0) _ _ (byte .first-dependency .ensures .0) (y .named .ensures)
+    (omega arith) (omega arith) (sym (past .before .tag-fits .ensures types tested equal paired) ∙ past .if1 .left) (zero .if2 .left) _
+    (c .known-zero .ensures types _ tested equal paired)
 
 pub fits-tagged-spec : {M : Type 1} → statement M
 fits-tagged-spec =

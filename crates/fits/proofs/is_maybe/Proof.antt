@@ -22,10 +22,10 @@ record-type-requires : tie.Need-record-type-requires
 record-type-requires c κs = search needs
 
 returns : tie.Need-returns
-returns c = λ types tested equal told. maybe-maybe _ _ _ (c .before .before .kind .ensures .0) _ (c .record-type .ensures .0) _ _ (omega arith)
+returns c = λ types tested equal paired. maybe-maybe _ _ _ (c .before .before .kind .ensures .0) _ (c .record-type .ensures .0) _ _ (omega arith)
 
 returns-2 : tie.Need-returns-2
-returns-2 c = λ types tested equal told. maybe-other _ _ _ (c .before .before .kind .ensures .0) _ _ (λ h. omega arith) (λ h. omega arith)
+returns-2 c = λ types tested equal paired. maybe-other _ _ _ (c .before .before .kind .ensures .0) _ _ (λ h. omega arith) (λ h. omega arith)
 
 first-dependency-requires : tie.Need-first-dependency-requires
 first-dependency-requires c κs = search needs
@@ -40,8 +40,8 @@ returns-3 : tie.Need-returns-3
 returns-3 c =
     let x = c .before in
     let byte = x .before in
-    λ types tested equal told. maybe-tagged _ _ _ (kind (byte .before) .kind .ensures .0) _ _ (byte .first-dependency .ensures .0) (x .dependency .ensures) _ _
-    (omega arith) _ (c .known-tag .ensures types tested equal told)
+    λ types tested equal paired. maybe-tagged _ _ _ (kind (byte .before) .kind .ensures .0) _ _ (byte .first-dependency .ensures .0)
+    (x .dependency .ensures) _ _ (omega arith) _ (c .known-tag .ensures types tested equal paired)
 
 pub is-maybe-spec : {M : Type 1} → statement M
 is-maybe-spec =

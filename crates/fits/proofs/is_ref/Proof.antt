@@ -23,16 +23,16 @@ enum-told c = search needs
 returns : tie.Need-returns
 returns c =
     let record-type = c .before in
-    λ types tested equal told. ref-told _ _ _ _ _ (record-type .by .given .1) (record-type .before .before .refers-by .ensures _ _ _) _ _ refl
+    λ types tested equal paired. ref-told _ _ _ _ _ (record-type .by .given .1) (record-type .before .before .refers-by .ensures _ _ _) _ _ refl
 
 returns-2 : tie.Need-returns-2
 returns-2 c =
     let tag = c .before .before in
-    λ types tested equal told. ref-told _ _ _ _ _ (tag .by2 .given .1) (tag .before .before .refers-by .ensures _ _ _) _ _
-    (c .known-tag .ensures types tested equal told)
+    λ types tested equal paired. ref-told _ _ _ _ _ (tag .by2 .given .1) (tag .before .before .refers-by .ensures _ _ _) _ _
+    (c .known-tag .ensures types tested equal paired)
 
 returns-3 : tie.Need-returns-3
-returns-3 c = λ types tested equal told. ref-told _ _ _ _ _ (c .enum-told .given .1) (c .before .before .refers-by .ensures _ _ _) _ _ refl
+returns-3 c = λ types tested equal paired. ref-told _ _ _ _ _ (c .enum-told .given .1) (c .before .before .refers-by .ensures _ _ _) _ _ refl
 
 pub is-ref-spec : {M : Type 1} → statement M
 is-ref-spec =

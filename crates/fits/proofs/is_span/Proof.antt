@@ -14,7 +14,7 @@ use Rattle.model.specs.Table.{tablesOf}
 use Rattle.model.specs.Values.{Values}
 use Rattle.model.specs.Reading.{fits}
 use Rattle.table.proofs.Questions.{test-false, test-true}
-use Rattle.known.specs.Numbers.{valuesOf, Told}
+use Rattle.known.specs.Numbers.{valuesOf, Paired}
 use Rattle.fits.specs.Fits.{meant}
 use Rattle.fits.proofs.Answers.{firsts, seconds, known-of, span-below, span-ranked}
 use borrow.Author.Needs.{needs}
@@ -79,20 +79,20 @@ module _ (types tags : List ℕ) (tested equal : ℕ) where
       let e : both .before .record-type .result ≡ both .record-type2 .result = omega arith in
       kinds-passed (both .before .before) ∙ rw (eq-eqb _ _ (sym (own-record both) ∙ e ∙ record-wanted both))
 
-  first-told : (c : tie.After-known-bound) → Told (values (start-2 (frame c))) (start-2 (frame c) .args .test)
+  first-told : (c : tie.After-known-bound) → Paired (values (start-2 (frame c))) (start-2 (frame c) .args .test)
       → c .known-bound .result ≡ first (start-2 (frame c))
-  first-told c told =
+  first-told c paired =
       let y = c .before in
       let q = y .before in
       let x = q .before in
       let p = x .before in
       known-of _ (names (start-2 (frame c))) _ _ _ _ _ _ _ _ (frame c .frame .ensures .0) (x .sibling .ensures)
-      (p .first-dependency .ensures .0) (y .named .ensures) (q .first-dependency2 .ensures .0) _ (c .known-bound .ensures tested equal told)
+      (p .first-dependency .ensures .0) (y .named .ensures) (q .first-dependency2 .ensures .0) _ (c .known-bound .ensures tested equal paired)
 
-  first-passed : (c : tie.Else3) → Told (values (start-2 (frame (c .before)))) (start-2 (frame (c .before)) .args .test)
+  first-passed : (c : tie.Else3) → Paired (values (start-2 (frame (c .before)))) (start-2 (frame (c .before)) .args .test)
       → fit (start-2 (frame (c .before))) ≡ second (start-2 (frame (c .before)))
   unfolding _and_
-  first-passed c told = record-passed (frame (c .before) .before) ∙ rw (test-true (first-told (c .before) told) (c .if3 .left))
+  first-passed c paired = record-passed (frame (c .before) .before) ∙ rw (test-true (first-told (c .before) paired) (c .if3 .left))
 
 -- ---- the needs
 
@@ -111,7 +111,7 @@ kind-requires-2 c κs = search needs
 returns : tie.Need-returns
 returns c =
     let s = start (c .before) in
-    λ types tags tested equal told. span-below _ _ _ (s .args .w) (names s) (omega arith) (omega arith)
+    λ types tags tested equal paired. span-below _ _ _ (s .args .w) (names s) (omega arith) (omega arith)
 
 record-type-requires : tie.Need-record-type-requires
 record-type-requires c κs = search needs
@@ -123,7 +123,7 @@ returns-2 : tie.Need-returns-2
 unfolding _and_
 returns-2 c =
     let both = c .before in
-    λ types tags tested equal told. sym (kinds-passed types tags tested equal (both .before .before)
+    λ types tags tested equal paired. sym (kinds-passed types tags tested equal (both .before .before)
     ∙ rw (ne-eqb _ _ (λ h. c .if2 .taken (own-record both ∙ h ∙ sym (record-wanted both)))))
 
 frame-requires : tie.Need-frame-requires
@@ -147,8 +147,8 @@ known-bound-requires c κs = search needs
 returns-3 : tie.Need-returns-3
 unfolding _and_
 returns-3 c =
-    λ types tags tested equal told. sym (record-passed types tags tested equal (frame (c .before) .before)
-    ∙ rw (test-false (first-told types tags tested equal (c .before) told) (c .if3 .taken)))
+    λ types tags tested equal paired. sym (record-passed types tags tested equal (frame (c .before) .before)
+    ∙ rw (test-false (first-told types tags tested equal (c .before) paired) (c .if3 .taken)))
 
 second-dependency-requires : tie.Need-second-dependency-requires
 second-dependency-requires c κs = search needs
@@ -172,9 +172,9 @@ returns-4 c =
     let x = q .before in
     let p = x .before in
     let f = frame (p .before .before) in
-    λ types tags tested equal told. known-of _ (names (start-2 f)) _ _ _ _ _ _ _ _ (f .frame .ensures .0) (x .sibling2 .ensures)
-    (p .second-dependency .ensures .0) (y .named2 .ensures) (q .second-dependency2 .ensures .0) _ (c .known-bound2 .ensures tested equal told)
-    ∙ sym (first-passed types tags tested equal (p .before) told)
+    λ types tags tested equal paired. known-of _ (names (start-2 f)) _ _ _ _ _ _ _ _ (f .frame .ensures .0) (x .sibling2 .ensures)
+    (p .second-dependency .ensures .0) (y .named2 .ensures) (q .second-dependency2 .ensures .0) _ (c .known-bound2 .ensures tested equal paired)
+    ∙ sym (first-passed types tags tested equal (p .before) paired)
 
 pub is-span-spec : {M : Type 1} → statement M
 is-span-spec =

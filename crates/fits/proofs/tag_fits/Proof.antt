@@ -38,8 +38,8 @@ returns : tie.Need-returns
 returns c =
     let past = c .before in
     let test = past .before in
-    λ types tested equal told. tag-of-record _ _ _ (kind-1 test .kind .ensures .0) _ (past .record-type .ensures .0) _ _ _
-    (sym (test .before .by-record .ensures) ∙ test .if1 .taken) _ (c .known-tag .ensures types tested equal told)
+    λ types tested equal paired. tag-of-record _ _ _ (kind-1 test .kind .ensures .0) _ (past .record-type .ensures .0) _ _ _
+    (sym (test .before .by-record .ensures) ∙ test .if1 .taken) _ (c .known-tag .ensures types tested equal paired)
 
 by-own-tag-requires : tie.Need-by-own-tag-requires
 by-own-tag-requires c κs = search needs
@@ -47,7 +47,7 @@ by-own-tag-requires c κs = search needs
 returns-2 : tie.Need-returns-2
 returns-2 c =
     let past = c .before .before in
-    λ types tested equal told. tag-other _ _ _ (kind-2 past .kind .ensures .0) _ _ _ (sym (past .before .by-record .ensures) ∙ past .if1 .left)
+    λ types tested equal paired. tag-other _ _ _ (kind-2 past .kind .ensures .0) _ _ _ (sym (past .before .by-record .ensures) ∙ past .if1 .left)
     (test-false (c .before .by-own-tag .ensures) (c .if2 .taken))
 
 first-dependency-requires : tie.Need-first-dependency-requires
@@ -64,8 +64,8 @@ returns-3 c =
     let x = c .before in
     let byte = x .before in
     let test = byte .before in
-    λ types tested equal told. tag-of-own _ _ _ (kind-2 (past-1 test) .kind .ensures .0) _ _ (byte .first-dependency .ensures .0) (x .dependency .ensures) _ _ _
-    (test-true (test .before .by-own-tag .ensures) (test .if2 .left)) _ (c .known-equal .ensures tested equal told)
+    λ types tested equal paired. tag-of-own _ _ _ (kind-2 (past-1 test) .kind .ensures .0) _ _ (byte .first-dependency .ensures .0)
+    (x .dependency .ensures) _ _ _ (test-true (test .before .by-own-tag .ensures) (test .if2 .left)) _ (c .known-equal .ensures tested equal paired)
 
 pub tag-fits-spec : {M : Type 1} → statement M
 tag-fits-spec =

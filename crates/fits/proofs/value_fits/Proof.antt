@@ -20,7 +20,7 @@ kind-requires : tie.Need-kind-requires
 kind-requires c κs = search needs
 
 returns : tie.Need-returns
-returns c = λ types tested equal told. fits-any _ _ _ _ (names (c .before)) _ (c .before .kind .ensures .0) (omega arith)
+returns c = λ types tested equal paired. fits-any _ _ _ _ (names (c .before)) _ (c .before .kind .ensures .0) (omega arith)
 
 fits-pointer-requires : tie.Need-fits-pointer-requires
 fits-pointer-requires c κs = search needs
@@ -46,14 +46,14 @@ known-equal-requires c κs = search needs
 returns-4 : tie.Need-returns-4
 returns-4 c =
     let y = c .before in
-    λ types tested equal told. fits-same _ _ _ _ (names (kind y)) _ (kind y .kind .ensures .0) _ _ (y .before .first-dependency .ensures .0)
-    (y .named .ensures) (omega arith) _ refl (omega arith) _ (c .known-equal .ensures tested equal told)
+    λ types tested equal paired. fits-same _ _ _ _ (names (kind y)) _ (kind y .kind .ensures .0) _ _ (y .before .first-dependency .ensures .0)
+    (y .named .ensures) (omega arith) _ refl (omega arith) _ (c .known-equal .ensures tested equal paired)
 
 is-span-requires : tie.Need-is-span-requires
 is-span-requires c κs = search needs
 
 returns-5 : tie.Need-returns-5
-returns-5 c = λ types tested equal told. c .is-span .ensures types _ tested equal told
+returns-5 c = λ types tested equal paired. c .is-span .ensures types _ tested equal paired
 
 pub value-fits-spec : {M : Type 1} → statement M
 value-fits-spec =

@@ -9,7 +9,7 @@ leads-to-requires : tie.Need-leads-to-requires
 leads-to-requires c κs = search needs
 
 returns : tie.Need-returns
-returns c = λ tested equal told. equal-alike _ _ _ _ _ _ _ (c .before .leads-to .ensures (c .if1 .taken) _ tested equal)
+returns c = λ tested equal paired. equal-alike _ _ _ _ _ _ _ (c .before .leads-to .ensures (c .if1 .taken) _ tested equal)
 
 stand-requires : tie.Need-stand-requires
 stand-requires c κs = search needs
@@ -20,7 +20,7 @@ stand-requires-2 c κs = search needs
 returns-2 : tie.Need-returns-2
 returns-2 c =
     let s = c .before in
-    λ tested equal told. equal-stand _ _ _ _ _ _ _ _ told _ _ (s .before .stand .ensures tested equal) (s .stand2 .ensures tested equal) (omega arith)
+    λ tested equal paired. equal-stand _ _ _ _ _ _ _ _ paired _ _ (s .before .stand .ensures tested equal) (s .stand2 .ensures tested equal) (omega arith)
 
 partner-requires : tie.Need-partner-requires
 partner-requires c κs = search needs
@@ -28,7 +28,7 @@ partner-requires c κs = search needs
 returns-3 : tie.Need-returns-3
 returns-3 c =
     let s = c .before .before in
-    λ tested equal told. equal-partner _ _ _ _ _ _ _ _ told _ _ (s .before .stand .ensures tested equal) (s .stand2 .ensures tested equal)
+    λ tested equal paired. equal-partner _ _ _ _ _ _ _ _ paired _ _ (s .before .stand .ensures tested equal) (s .stand2 .ensures tested equal)
     (λ h. omega arith) _ (c .partner .ensures)
 
 pub joined-spec : {M : Type 1} → statement M

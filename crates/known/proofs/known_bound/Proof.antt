@@ -6,7 +6,7 @@ use Rattle.known.proofs.known_bound.Statement.{statement}
 use Rattle.known.proofs.known_bound.Tie as tie
 
 returns : tie.Need-returns
-returns c = λ tested equal told. equal-one _ _ _ _ _ _ _ (omega arith)
+returns c = λ tested equal paired. equal-one _ _ _ _ _ _ _ (omega arith)
 
 own-constant-requires : tie.Need-own-constant-requires
 own-constant-requires c κs = search needs
@@ -24,7 +24,7 @@ returns-3 : tie.Need-returns-3
 returns-3 c =
     let y = c .before in
     let x = y .before .before in
-    λ tested equal told.
+    λ tested equal paired.
     let (kx, rx) = x .own-constant .ensures _ tested equal in
     let (ky, ry) = y .own-constant2 .ensures _ tested equal in
     equal-constants _ _ _ _ _ _ _ _ _ kx (rx (omega arith)) ky (ry (omega arith)) (omega arith) (omega arith)

@@ -6,7 +6,7 @@ use Rattle.known.proofs.known_equal.Statement.{statement}
 use Rattle.known.proofs.known_equal.Tie as tie
 
 returns : tie.Need-returns
-returns c = λ tested equal told. equal-one _ _ _ _ _ _ _ (omega arith)
+returns c = λ tested equal paired. equal-one _ _ _ _ _ _ _ (omega arith)
 
 joined-requires : tie.Need-joined-requires
 joined-requires c κs = search needs

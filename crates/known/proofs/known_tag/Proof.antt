@@ -14,7 +14,7 @@ is-tag-requires c κs = search needs
 returns : tie.Need-returns
 returns c =
     let r = c .before .before in
-    λ types tested equal told. passes-stand _ _ _ _ _ _ _ _ told _ (r .stand .ensures tested equal)
+    λ types tested equal paired. passes-stand _ _ _ _ _ _ _ _ paired _ (r .stand .ensures tested equal)
     (sym (c .before .is-tag .ensures types) ∙ c .if1 .taken)
 
 partner-requires : tie.Need-partner-requires
@@ -28,7 +28,7 @@ returns-2 c =
     let p = c .before in
     let no = p .before in
     let r = no .before .before in
-    λ types tested equal told. passes-partner _ _ _ _ _ _ _ _ told _ (r .stand .ensures tested equal)
+    λ types tested equal paired. passes-partner _ _ _ _ _ _ _ _ paired _ (r .stand .ensures tested equal)
     (sym (no .before .is-tag .ensures types) ∙ no .if1 .left) _ (p .partner .ensures) _ (c .is-tag2 .ensures types)
 
 pub known-tag-spec : {M : Type 1} → statement M

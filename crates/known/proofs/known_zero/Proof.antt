@@ -13,8 +13,8 @@ stand-requires c κs = search needs
 returns : tie.Need-returns
 returns c =
     let r = c .before .stand in
-    λ types tags tested equal told. zero-known _ _ _ (omega arith) _
-    (passes-stand _ _ _ _ _ _ _ _ told _ (r .ensures tested equal) (sym (zero-held (r .result)) ∙ eq-eqb (r .result) 256 (omega arith)))
+    λ types tags tested equal paired. zero-known _ _ _ (omega arith) _
+    (passes-stand _ _ _ _ _ _ _ _ paired _ (r .ensures tested equal) (sym (zero-held (r .result)) ∙ eq-eqb (r .result) 256 (omega arith)))
 
 partner-requires : tie.Need-partner-requires
 partner-requires c κs = search needs
@@ -23,8 +23,8 @@ returns-2 : tie.Need-returns-2
 returns-2 c =
     let no = c .before in
     let r = no .before .stand in
-    λ types tags tested equal told. zero-known _ _ _ (omega arith) _
-    (passes-partner _ _ _ _ _ _ _ _ told _ (r .ensures tested equal) (sym (zero-held (r .result)) ∙ ne-eqb (r .result) 256 (λ h. omega arith)) _
+    λ types tags tested equal paired. zero-known _ _ _ (omega arith) _
+    (passes-partner _ _ _ _ _ _ _ _ paired _ (r .ensures tested equal) (sym (zero-held (r .result)) ∙ ne-eqb (r .result) 256 (λ h. omega arith)) _
     (c .partner .ensures) _ (zero-held (c .partner .result)))
 
 pub known-zero-spec : {M : Type 1} → statement M
