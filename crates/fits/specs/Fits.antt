@@ -4,28 +4,18 @@ use mathlib.Core.List.{List}
 use Prim.Native.Nat.{ℕ}
 use lib.Dec.{eqb}
 use lib.ListN.{getD}
-use denote.Ref.{now}
 use Rattle.model.specs.Question.{_or_, pick}
 use Rattle.model.specs.Types.{Dep, Ty, any, ref, maybe, tagged, present, same, span, typeOf, rename}
 use Rattle.model.specs.Table.{Tables}
-use Rattle.model.specs.Values.{Values, typed}
+use Rattle.model.specs.Values.{Values}
 use Rattle.model.specs.Reading.{isTagged, isPresent, fits}
-use Rattle.known.specs.Numbers.{Lent, tablesIn, valuesIn, depAt}
+use Rattle.known.specs.Numbers.{depAt}
 use Rattle.fits.specs.declared.Referred.{Referred}
 use Rattle.fits.specs.declared.Referred.the-variants.{Record, Tag, Neither}
 
 -- the type that w says, where the names stand for other values
 abbrev pub meant : List ℕ → ℕ → Ty
 meant names w = rename (λ i. getD names i 0) (typeOf w)
-
--- what is asked of the value v: of its type, and whether it fits the type word w
-abbrev pub ofValue : {A : Type 0} → (Tables → Values → Ty → A) → List ℕ → Lent → Lent → Lent → Lent → ℕ → ℕ → ℕ → A
-ofValue asked types tags words frames constants tested equal v =
-    asked (tablesIn types tags) (valuesIn words frames constants tested equal) (typed (valuesIn words frames constants tested equal) v)
-
-abbrev pub fitsIn : List ℕ → Lent → Lent → Lent → Lent → ℕ → ℕ → ℕ → ℕ → Lent → Bool
-fitsIn types tags words frames constants tested equal v w names =
-    fits (tablesIn types tags) (valuesIn words frames constants tested equal) v (meant (now (names .entry)) w)
 
 -- ---- references
 

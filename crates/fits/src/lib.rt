@@ -8,8 +8,8 @@ ghost use Rattle.model.specs.Word.{kindOf};
 ghost use Rattle.model.specs.Table.{tablesOf};
 ghost use Rattle.model.specs.Values.{typed};
 ghost use Rattle.model.specs.Reading.{isRef, isMaybe, fits, rowFits, referenceOf};
-ghost use Rattle.known.specs.Numbers.{valuesOf, tablesIn, valuesIn, depAt, Paired};
-ghost use Rattle.fits.specs.Fits.{ofValue, fitsIn, meant, refers, refersOf, byRecord, byOwnTag, tagFits, placeFits};
+ghost use Rattle.known.specs.Numbers.{valuesOf, tablesIn, valuesIn, depAt, Past};
+ghost use Rattle.fits.specs.Fits.{meant, refers, refersOf, byRecord, byOwnTag, tagFits, placeFits};
 use model::Reference;
 
 // ---- fits
@@ -49,8 +49,7 @@ fn is_ref(
     v: u8,
     t: u32,
 ) -> bool
-    ensures { λ r. ⌜ ((types : List ℕ) (tested equal : ℕ) → Paired (valuesIn words frames constants tested equal) test
-        → r ≡ ofValue (λ 𝒯 vs. isRef 𝒯 vs t) types tags words frames constants tested equal v) ⌝ }
+    ensures { λ r. ⌜ ((types : List ℕ) → Past words frames constants test (λ vs. r ≡ isRef (tablesIn types tags) vs t (typed vs v))) ⌝ }
 {
     let by = refers_by(words, frames, v);
     match by {
@@ -70,8 +69,7 @@ fn is_maybe(
     v: u8,
     t: u32,
 ) -> bool
-    ensures { λ r. ⌜ ((types : List ℕ) (tested equal : ℕ) → Paired (valuesIn words frames constants tested equal) test
-        → r ≡ ofValue (λ 𝒯 vs. isMaybe 𝒯 vs t) types tags words frames constants tested equal v) ⌝ }
+    ensures { λ r. ⌜ ((types : List ℕ) → Past words frames constants test (λ vs. r ≡ isMaybe (tablesIn types tags) vs t (typed vs v))) ⌝ }
 {
     let w = words[v as usize];
     let kind = word::kind(w);
@@ -96,8 +94,8 @@ fn is_span(
     names: &[u8; 8],
 ) -> bool
     requires { ⌜ 6 ≤ kindOf w ⌝ }
-    ensures { λ r. ⌜ ((types tags : List ℕ) (tested equal : ℕ) → Paired (valuesIn words frames constants tested equal) test
-        → r ≡ fits (tablesOf types tags) (valuesIn words frames constants tested equal) v (meant (now (names .entry)) w)) ⌝ }
+    ensures { λ r. ⌜ ((types tags : List ℕ)
+        → Past words frames constants test (λ vs. r ≡ fits (tablesOf types tags) vs v (meant (now (names .entry)) w))) ⌝ }
 {
     let own = words[v as usize];
     if word::kind(own) < word::kind(w) {
@@ -129,8 +127,8 @@ fn fits_pointer(
     names: &[u8; 8],
 ) -> bool
     requires { ⌜ (1 ≤ kindOf w) × (kindOf w ≤ 2) ⌝ }
-    ensures { λ r. ⌜ ((types : List ℕ) (tested equal : ℕ) → Paired (valuesIn words frames constants tested equal) test
-        → r ≡ fitsIn types tags words frames constants tested equal v w names) ⌝ }
+    ensures { λ r. ⌜ ((types : List ℕ)
+        → Past words frames constants test (λ vs. r ≡ fits (tablesIn types tags) vs v (meant (now (names .entry)) w))) ⌝ }
 {
     let t = word::record_type(w);
     if is_ref(tags, words, frames, constants, test, v, t) {
@@ -185,8 +183,8 @@ fn tag_fits(
     y: u32,
     present: bool,
 ) -> bool
-    ensures { λ r. ⌜ ((types : List ℕ) (tested equal : ℕ) → Paired (valuesIn words frames constants tested equal) test
-        → r ≡ ofValue (λ 𝒯 vs. tagFits 𝒯 vs present (depAt y)) types tags words frames constants tested equal v) ⌝ }
+    ensures { λ r. ⌜ ((types : List ℕ)
+        → Past words frames constants test (λ vs. r ≡ tagFits (tablesIn types tags) vs present (depAt y) (typed vs v))) ⌝ }
 {
     let own = words[v as usize];
     let kind = word::kind(own);
@@ -213,8 +211,8 @@ fn fits_tagged(
     names: &[u8; 8],
 ) -> bool
     requires { ⌜ (3 ≤ kindOf w) × (kindOf w ≤ 4) ⌝ }
-    ensures { λ r. ⌜ ((types : List ℕ) (tested equal : ℕ) → Paired (valuesIn words frames constants tested equal) test
-        → r ≡ fitsIn types tags words frames constants tested equal v w names) ⌝ }
+    ensures { λ r. ⌜ ((types : List ℕ)
+        → Past words frames constants test (λ vs. r ≡ fits (tablesIn types tags) vs v (meant (now (names .entry)) w))) ⌝ }
 {
     let y = known::named(names, word::first_dependency(w));
     let present = word::kind(w) == word::PRESENT;
@@ -238,8 +236,8 @@ fn value_fits(
     w: u32,
     names: &[u8; 8],
 ) -> bool
-    ensures { λ r. ⌜ ((types : List ℕ) (tested equal : ℕ) → Paired (valuesIn words frames constants tested equal) test
-        → r ≡ fitsIn types tags words frames constants tested equal v w names) ⌝ }
+    ensures { λ r. ⌜ ((types : List ℕ)
+        → Past words frames constants test (λ vs. r ≡ fits (tablesIn types tags) vs v (meant (now (names .entry)) w))) ⌝ }
 {
     let kind = word::kind(w);
     if kind == word::ANY {
@@ -270,8 +268,8 @@ pub fn field_fits(
     names: &[u8; 8],
 ) -> bool
     requires { ⌜ (k < 8) × (k < length (now row)) ⌝ }
-    ensures { λ r. ⌜ ((types : List ℕ) (tested equal : ℕ) → Paired (valuesIn words frames constants tested equal) test
-        → r ≡ placeFits (tablesIn types tags) (valuesIn words frames constants tested equal) (now (row .entry)) (now (names .entry)) k) ⌝ }
+    ensures { λ r. ⌜ ((types : List ℕ)
+        → Past words frames constants test (λ vs. r ≡ placeFits (tablesIn types tags) vs (now (row .entry)) (now (names .entry)) k)) ⌝ }
 {
     value_fits(
         tags,
@@ -297,8 +295,8 @@ pub fn row_fits(
     names: &[u8; 8],
 ) -> bool
     requires { ⌜ (n ≤ 8) × (n ≤ length (now row)) ⌝ }
-    ensures { λ r. ⌜ ((types : List ℕ) (tested equal : ℕ) → Paired (valuesIn words frames constants tested equal) test
-        → r ≡ rowFits (tablesIn types tags) (valuesIn words frames constants tested equal) n (now (row .entry)) (now (names .entry))) ⌝ }
+    ensures { λ r. ⌜ ((types : List ℕ)
+        → Past words frames constants test (λ vs. r ≡ rowFits (tablesIn types tags) vs n (now (row .entry)) (now (names .entry)))) ⌝ }
 {
     let mut i = 0;
     while i < n {
@@ -320,7 +318,8 @@ pub fn reference(
     constants: &[u32; 32],
     v: u8,
 ) -> Reference
-    ensures { λ r. ⌜ ((types : List ℕ) → r ≡ ofValue referenceOf types tags words frames constants 0 0 v) ⌝ }
+    ensures { λ r. ⌜ ((types : List ℕ)
+        → r ≡ referenceOf (tablesIn types tags) (valuesIn words frames constants 0 0) (typed (valuesIn words frames constants 0 0) v)) ⌝ }
 {
     let by = refers_by(words, frames, v);
     match by {

@@ -2,7 +2,7 @@
 use mathlib.Core.Path.{_≡_, refl, sym, _∙_}
 use mathlib.Core.Bool.{Bool, true, false}
 use mathlib.Core.List.{List, [], _++_}
-use Prim.Native.Nat.{ℕ, suc, _+_, _-_, _/_, _<_, _≤_}
+use Prim.Native.Nat.{ℕ, suc, _+_, _-_, _*_, _/_, _%_, _<_, _≤_}
 use native.Mathlib.Omega.{arith}
 use lib.Dec.{eqb}
 use lib.ListN.{length, getD}
@@ -90,6 +90,18 @@ module _ (words frames constants : List ℕ) (tested equal x y : ℕ) where
     pub equal-partner : (r ≡ s → ⊥) → (p : ℕ) → p ≡ partnerOf test r → eqb p s ≡ equal-xy
     unfolding knownEqual _or_
     equal-partner n p ep = sym (equal-by vs test paired (depAt x) r er (depAt y) s es ∙ rw (ne-eqb r s n, ← ep))
+
+-- ---- what a test tells
+
+-- q stands for the value tested
+pub test-pairs : (vs : Values) (t q : ℕ) → depAt q ≡ stand vs (depAt (vs .tested)) → vs .tested < 256 → 0 < vs .equal → vs .equal ≤ 256
+    → t ≡ q * 512 + (vs .equal + 255) → Paired vs t
+test-pairs vs t q eq v h b et =
+    let value : t / 512 ≡ q = omega arith in
+    let constant : t % 512 ≡ vs .equal + 255 = omega arith in (
+      λ e. absurd (omega arith),
+      λ _. (rw (value, ← dep-name (vs .tested) v) eq, constant),
+    )
 
 -- ---- tags
 

@@ -66,6 +66,11 @@ abbrev pub Paired : Values → ℕ → Type 0
 Paired vs test =
     (vs .equal ≡ 0 → test ≡ 0) × (0 < vs .equal → (depAt (test / 512) ≡ stand vs (name (vs .tested))) × (test % 512 ≡ vs .equal + 255))
 
+-- said of the values that the lent arrays make, past the test that the number tells
+abbrev pub Past : Lent → Lent → Lent → ℕ → (Values → Type 0) → Type 0
+Past words frames constants test said =
+    (tested equal : ℕ) → Paired (valuesIn words frames constants tested equal) test → said (valuesIn words frames constants tested equal)
+
 -- the one of two for the other, and r for any other
 abbrev pub partnerIn : ℕ → ℕ → ℕ → ℕ
 partnerIn a b r = pick (eqb r a) b (pick (eqb r b) a r)

@@ -11,7 +11,7 @@ ghost use Rattle.model.specs.Table.{tablesOf};
 ghost use Rattle.model.specs.Values.{birthplace, lead, leastAlong, root, rootOf, heldAt, alike, constantHeld, constantsOf, some, knownEqual};
 ghost use Rattle.model.specs.Reading.{knownZero, firstTag};
 ghost use Rattle.known.specs.Numbers.{framesOf, valuesOf, tablesIn, valuesIn, depAt, siblingOf, namedOf};
-ghost use Rattle.known.specs.Numbers.{constantOr, stand, Paired, partnerOf, servesAsTag};
+ghost use Rattle.known.specs.Numbers.{constantOr, stand, Paired, Past, partnerOf, servesAsTag};
 use model::Reference;
 
 // Eight values are born together, so that a chain of Same among them ends, or comes to a circle, within so many steps.
@@ -256,8 +256,7 @@ fn joined(
     x: u32,
     y: u32,
 ) -> bool
-    ensures { λ r. ⌜ ((tested equal : ℕ) → Paired (valuesIn words frames constants tested equal) test
-        → r ≡ knownEqual (valuesIn words frames constants tested equal) (depAt x) (depAt y)) ⌝ }
+    ensures { λ r. ⌜ Past words frames constants test (λ vs. r ≡ knownEqual vs (depAt x) (depAt y)) ⌝ }
 {
     if leads_to(words, frames, x, y) {
         return true;
@@ -279,8 +278,7 @@ pub fn known_equal(
     x: u32,
     y: u32,
 ) -> bool
-    ensures { λ r. ⌜ ((tested equal : ℕ) → Paired (valuesIn words frames constants tested equal) test
-        → r ≡ knownEqual (valuesIn words frames constants tested equal) (depAt x) (depAt y)) ⌝ }
+    ensures { λ r. ⌜ Past words frames constants test (λ vs. r ≡ knownEqual vs (depAt x) (depAt y)) ⌝ }
 {
     if x == y {
         return true;
@@ -297,8 +295,7 @@ pub fn known_bound(
     x: u32,
     y: u32,
 ) -> bool
-    ensures { λ r. ⌜ ((tested equal : ℕ) → Paired (valuesIn words frames constants tested equal) test
-        → r ≡ knownEqual (valuesIn words frames constants tested equal) (depAt x) (depAt y)) ⌝ }
+    ensures { λ r. ⌜ Past words frames constants test (λ vs. r ≡ knownEqual vs (depAt x) (depAt y)) ⌝ }
 {
     if x == y {
         return true;
@@ -340,8 +337,8 @@ pub fn known_tag(
     t: u32,
     beyond: bool,
 ) -> bool
-    ensures { λ r. ⌜ ((types : List ℕ) (tested equal : ℕ) → Paired (valuesIn words frames constants tested equal) test
-        → r ≡ some (servesAsTag beyond (tablesIn types tags) t) (constantsOf (valuesIn words frames constants tested equal) (depAt x))) ⌝ }
+    ensures { λ r. ⌜ ((types : List ℕ)
+        → Past words frames constants test (λ vs. r ≡ some (servesAsTag beyond (tablesIn types tags) t) (constantsOf vs (depAt x)))) ⌝ }
 {
     let r = stand(words, frames, constants, x);
     if is_tag(tags, r, t, beyond) {
@@ -383,8 +380,7 @@ pub fn known_zero(
     test: u64,
     v: u8,
 ) -> bool
-    ensures { λ r. ⌜ ((types tags : List ℕ) (tested equal : ℕ) → Paired (valuesIn words frames constants tested equal) test
-        → r ≡ knownZero (tablesOf types tags) (valuesIn words frames constants tested equal) v) ⌝ }
+    ensures { λ r. ⌜ ((types tags : List ℕ) → Past words frames constants test (λ vs. r ≡ knownZero (tablesOf types tags) vs v)) ⌝ }
 {
     let r = stand(words, frames, constants, v as u32);
     if r == 256 {
