@@ -103,6 +103,7 @@ static void over_types(one_call *call)
     WITH("half a row of types", g.types_words = 13);
     WITH("second type of no fields", g.types[ROW] = 0);
     WITH("second type of an unknown kind", g.types[ROW + 1] = RAMDULSI_NO_WORD);
+    WITH("second type marked past its fields", g.types[ROW + 3] = ramdulsi_type_locked(ramdulsi_type_any()));
     WITH("second tag of no type", g.tags[1] = 2);
 }
 
@@ -118,6 +119,7 @@ static void over_blocks(one_call *call)
 static void over_annotations(one_call *call)
 {
     WITH("third block's r7 of an unknown kind", g.blocks[2 * ROW + 8] = RAMDULSI_NO_WORD);
+    WITH("third block's r7 marked as a locked field", g.blocks[2 * ROW + 8] = ramdulsi_type_locked(ramdulsi_type_any()));
 }
 
 static void over_memory(one_call *call)
@@ -139,6 +141,7 @@ static void over_code(one_call *call)
 {
     WITH("a load through no reference", g.code[1] = ramdulsi_code_load(3, 0, 1));
     WITH("a load past the record", g.code[1] = ramdulsi_code_load(3, 2, 2));
+    WITH("a store to a locked field", g.types[ROW + 2] = ramdulsi_type_locked(g.types[ROW + 2]));
     WITH("a load in an open record through another value",
          (g.blocks[ROW + 6] = ramdulsi_type_ref(1), g.code[1] = ramdulsi_code_store(0, 2, 1), g.code[2] = ramdulsi_code_load(3, 5, 1),
           g.blocks[6] = ramdulsi_type_ref(1)));

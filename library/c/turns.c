@@ -11,7 +11,7 @@
 
 /* ---- plots, and the records that they lead to */
 
-/* raw (weight, moisture); corrected (weight); plot (stage, pointer that the stage tells of) */
+/* raw (weight, moisture), locked: it stays as it was weighed; corrected (weight); plot (stage, pointer that the stage tells of) */
 enum { RAW, CORRECTED, PLOT, TYPES };
 enum { WEIGHT = 0, MOISTURE = 1, STAGE = 0, POINTER = 1 };
 
@@ -27,7 +27,7 @@ static uint32_t memory[] = {0, 1, FIRST_CORRECTED, 0, SECOND_RAW, 8000, 8600, 22
 static void lay_out(void)
 {
     const uint32_t any = ramdulsi_type_any();
-    const uint32_t raw[] = {any, any};
+    const uint32_t raw[] = {ramdulsi_type_locked(any), ramdulsi_type_locked(any)};
     const uint32_t corrected[] = {any};
     const uint32_t plot[] = {any, ramdulsi_type_tagged(ramdulsi_of_field(STAGE))};
     ramdulsi_row_of_type(types[RAW], 2, raw);

@@ -26,7 +26,7 @@ static void dependencies(void)
 static void types(void)
 {
     SHOW(ramdulsi_type(8, 63, 1, 255));
-    SHOW(ramdulsi_type(256, 0, 0, 0));
+    SHOW(ramdulsi_type(128, 0, 0, 0));
     SHOW(ramdulsi_type(1, 256, 0, 0));
     SHOW(ramdulsi_type(3, 0, 256, 0));
     SHOW(ramdulsi_type(6, 0, 0, 256));
@@ -41,6 +41,9 @@ static void types(void)
     SHOW(ramdulsi_type_from(2, ramdulsi_of_constant(1), ramdulsi_of_constant(7)));
     SHOW(ramdulsi_type_in(2, ramdulsi_of_register(5), ramdulsi_of_register(8)));
     SHOW(ramdulsi_type_in(2, ramdulsi_of_register(5), ramdulsi_of_register(6)));
+    SHOW(ramdulsi_type_locked(ramdulsi_type_any()));
+    SHOW(ramdulsi_type_locked(ramdulsi_type_tagged(ramdulsi_of_field(1))));
+    SHOW(ramdulsi_type_locked(ramdulsi_type_ref(256)));
 }
 
 static void arithmetic(void)

@@ -45,7 +45,7 @@
  * start, or from what its own last turn returned if that was 40. A routine that has halted (0) gets no more turns, unless from its start
  * block and start registers, or others that pass the entry check. Every turn returns 0 or 40, touches only fields of allocated records, and
  * after every block leaves in type all records, and the registers of every routine that has not halted; every word of memory outside the
- * records stays as it was.
+ * records stays as it was. A locked field is never written: its word stays as it was inside a block too.
  */
 #ifndef RAMDULSI_H
 #define RAMDULSI_H
@@ -58,9 +58,9 @@ extern "C" {
 #endif
 
 /* The version of this header, and of the archive that it comes with. */
-#define RAMDULSI_VERSION "0.4.0"
+#define RAMDULSI_VERSION "0.5.0"
 #define RAMDULSI_VERSION_MAJOR 0
-#define RAMDULSI_VERSION_MINOR 4
+#define RAMDULSI_VERSION_MINOR 5
 #define RAMDULSI_VERSION_PATCH 0
 
 /* Bytes of stack that a thread needs for ramdulsi_check and ramdulsi_run, and for ramdulsi_memory_check and ramdulsi_entry_check, which
@@ -99,6 +99,8 @@ extern "C" {
 #define RAMDULSI_ANSWER_FIELD 20u
 #define RAMDULSI_ANSWER_REGISTER 21u
 /* no call answers 22, and none will */
+/* refusal of a store to a locked field */
+#define RAMDULSI_ANSWER_LOCKED_FIELD 23u
 /* a run's budget is finished, and the routine goes on */
 #define RAMDULSI_ANSWER_PAUSED 40u
 
@@ -128,6 +130,7 @@ static inline const char *ramdulsi_name_of_check(uint32_t number)
     case RAMDULSI_ANSWER_ALLOCATION: return "allocation";
     case RAMDULSI_ANSWER_FIELD: return "field";
     case RAMDULSI_ANSWER_REGISTER: return "register";
+    case RAMDULSI_ANSWER_LOCKED_FIELD: return "locked field";
     case RAMDULSI_ANSWER_PAUSED: return "paused";
     default: return "unknown";
     }
@@ -156,7 +159,7 @@ static inline const char *ramdulsi_name_of_run(uint32_t number)
 #define RAMDULSI_LIMIT_FIRST_START 1u
 #define RAMDULSI_LIMIT_REGISTERS 8u
 
-/* ---- kinds: bits 31 to 24 of a type word */
+/* ---- kinds: bits 30 to 24 of a type word */
 
 #define RAMDULSI_KIND_ANY 0u
 #define RAMDULSI_KIND_REF 1u
@@ -169,6 +172,8 @@ static inline const char *ramdulsi_name_of_run(uint32_t number)
 #define RAMDULSI_KIND_IN 8u
 /* A dependency byte from here on is a constant, by so much more than it is; one below is a field or a register. */
 #define RAMDULSI_KIND_CONSTANTS 8u
+/* Not a kind but the mark beside it, bit 31 of a type word: the field is locked. In an annotation it is refused. */
+#define RAMDULSI_KIND_LOCKED 2147483648u
 
 /* ---- opcodes: bits 31 to 24 of an instruction */
 
@@ -214,10 +219,10 @@ static inline uint32_t ramdulsi_of_constant(uint32_t constant)
     return constant <= 255u - RAMDULSI_KIND_CONSTANTS ? constant + RAMDULSI_KIND_CONSTANTS : RAMDULSI_NO_WORD;
 }
 
-/* A type word of its four bytes: kind, record type in bits 23 to 16, dependency d in 15 to 8, dependency e in 7 to 0. */
+/* A type word of its parts: kind in bits 30 to 24, record type in 23 to 16, dependency d in 15 to 8, dependency e in 7 to 0. */
 static inline uint32_t ramdulsi_type(uint32_t kind, uint32_t type, uint32_t d, uint32_t e)
 {
-    if (kind > 255u || type > 255u || d > 255u || e > 255u) {
+    if (kind > 127u || type > 255u || d > 255u || e > 255u) {
         return RAMDULSI_NO_WORD;
     }
     return kind << 24 | type << 16 | d << 8 | e;
@@ -275,6 +280,12 @@ static inline uint32_t ramdulsi_type_from(uint32_t type, uint32_t d, uint32_t e)
 static inline uint32_t ramdulsi_type_in(uint32_t type, uint32_t d, uint32_t e)
 {
     return ramdulsi_type(RAMDULSI_KIND_IN, type, d, e);
+}
+
+/* the same type, of a field that is locked: routines load it, and one that stores to it is refused */
+static inline uint32_t ramdulsi_type_locked(uint32_t word)
+{
+    return word | RAMDULSI_KIND_LOCKED;
 }
 
 /* Fills a row of the type table: the field count and the type words of so many fields, then zeros. More than 8 fields are not read; their
@@ -409,7 +420,7 @@ static inline uint32_t ramdulsi_code_if_less(uint32_t a, uint32_t b, uint32_t bl
  */
 
 /* Whether a routine is accepted.
- *   types   1 to 64 rows of 9 words: field count, then 8 type words
+ *   types   1 to 64 rows of 9 words: field count, then 8 type words, bit 31 set in those of locked fields
  *   tags    0 to 64 words: the record type of each tag
  *   blocks  1 to 256 rows of 9 words: length, then the type words of r0 to r7
  *   code    1 to 8,192 instruction words
@@ -419,7 +430,8 @@ static inline uint32_t ramdulsi_code_if_less(uint32_t a, uint32_t b, uint32_t bl
  *     4         tag, 0
  *     5         row of blocks, 0; the row is the block count where code is left over after the last block
  *     6         row of blocks, 0
- *     7 to 15   block, code index; the first instruction with a no has the answer, whatever its number
+ *     7 to 15, 23
+ *               block, code index; the first instruction with a no has the answer, whatever its number; 23 is asked after 11 and before 12
  *     0         0, 0: accepted
  */
 uint32_t ramdulsi_check(const uint32_t *types, size_t types_words, const uint32_t *tags, size_t tags_words,

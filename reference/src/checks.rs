@@ -26,6 +26,9 @@ fn instruction(r: Routine, reading: &mut Reading, b: usize, index: usize, last: 
             if c as usize >= types.size(t) {
                 return no(11, b, index);
             }
+            if p.op == 9 && types.locked(t, c as usize) {
+                return no(23, b, index);
+            }
             if !reading.may_touch(base) {
                 return no(12, b, index);
             }

@@ -98,6 +98,15 @@ fn chain(row: &mut [u32], places: &[usize], end: Option<usize>) {
     }
 }
 
+/// Now and then some of the fields are locked, so that stores are mostly to others.
+fn lock(r: &mut Random, fields: &mut [u32]) {
+    if r.chance(3) {
+        for w in fields {
+            *w |= if r.chance(3) { LOCKED } else { 0 };
+        }
+    }
+}
+
 /// The eight type words of a record of n words; now and then some are a chain, which may end in a constant or a circle.
 fn fields(r: &mut Random, count: usize, n: usize) -> Vec<u32> {
     let mut row: Vec<u32> = (0..8).map(|f| if f < n { any_type(r, count, n) } else { 0 }).collect();
@@ -113,6 +122,7 @@ fn fields(r: &mut Random, count: usize, n: usize) -> Vec<u32> {
         }
         chain(&mut row, &places, end);
     }
+    lock(r, &mut row[..n]);
     row
 }
 
@@ -340,8 +350,8 @@ fn repair_routine(r: &mut Random, c: &mut Case) {
         let v = check(&c.types, &c.tags, &c.blocks, &c.code);
         let (b, i) = (v.first as usize, v.second as usize);
         match v.number {
-            10..=12 if !r.chance(6) => c.code[i] = c.code[i] >> 20 << 20 | (r.below(8) as u32) << 16 | r.below(3) as u32,
-            7..=12 => c.code[i] = plain(r),
+            10..=12 | 23 if !r.chance(6) => c.code[i] = c.code[i] >> 20 << 20 | (r.below(8) as u32) << 16 | r.below(3) as u32,
+            7..=12 | 23 => c.code[i] = plain(r),
             13 if r.chance(2) && i > 0 => c.code[i - 1] = 9 << 24 | (r.below(8) as u32) << 20 | c.code[i - 1] & 0xf0000 | r.below(3) as u32,
             13 => {
                 let start: usize = (0..b).map(|k| c.blocks[k * 9] as usize).sum();
@@ -520,6 +530,8 @@ pub fn random(r: &mut Random) -> Case {
         for f in 1..9 {
             row[f] = if f as u32 > row[0] { 0 } else { any_type(r, count, row[0] as usize) };
         }
+        let n = row[0] as usize;
+        lock(r, &mut row[1..=n]);
     }
     for row in c.allocations.chunks_exact_mut(2).filter(|_| good) {
         row[1] = r.below(count) as u32;

@@ -3,6 +3,7 @@
 
 use crate::generate::{another, case, Case, Random};
 use crate::protocol::line;
+use crate::tables::Types;
 use crate::Loader;
 use std::fmt::Write;
 
@@ -14,6 +15,8 @@ pub struct Seen {
     pub turns: u64,
     /// memories that the routines changed
     pub changed: u64,
+    /// locked words in these memories
+    pub locked: u64,
 }
 
 /// Whether c's registers meet its block's annotation over a memory.
@@ -35,6 +38,13 @@ fn outside(c: &Case, memory: &[u32]) -> Vec<u32> {
     rest
 }
 
+/// The words of locked fields.
+fn locked(c: &Case, memory: &[u32]) -> Vec<u32> {
+    let types = Types { rows: &c.types, tags: &c.tags };
+    let rows = c.allocations.chunks_exact(2).map(|row| (row[0] as usize, row[1] as usize));
+    rows.flat_map(|(start, t)| (0..types.size(t)).filter(move |&f| types.locked(t, f)).map(move |f| memory[start + f])).collect()
+}
+
 /// The promise that a turn of task i with a budget broke, if any; the tasks and the memory are left as the turn leaves them.
 fn turn<L: Loader>(tasks: &mut Vec<(usize, Case)>, memory: &mut [u32], i: usize, budget: u64, said: &mut String) -> Option<&'static str> {
     let before = memory.to_vec();
@@ -52,6 +62,9 @@ fn turn<L: Loader>(tasks: &mut Vec<(usize, Case)>, memory: &mut [u32], i: usize,
     }
     if outside(t, &before) != outside(t, memory) {
         return Some("words outside the records stay");
+    }
+    if locked(t, &before) != locked(t, memory) {
+        return Some("locked words stay");
     }
     if !fits::<L>(t, memory) {
         return Some("the records fit");
@@ -86,7 +99,10 @@ pub fn turns<L: Loader>(r: &mut Random, c: &Case, seen: &mut Seen) -> Result<(),
         }
         seen.turns += 1;
     }
-    seen.changed += u64::from(memory != c.memory);
+    if memory != c.memory {
+        seen.changed += 1;
+        seen.locked += locked(c, &memory).len() as u64;
+    }
     Ok(())
 }
 

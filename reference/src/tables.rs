@@ -12,11 +12,15 @@ pub const RUN: u32 = 6;
 pub const FROM: u32 = 7;
 pub const IN: u32 = 8;
 
+/// 'Bit 31 of a record's type word now marks a field locked'.
+pub const LOCKED: u32 = 1 << 31;
+
+/// 'the remaining seven bits of that byte are the kind'.
 pub fn kind(w: u32) -> u32 {
-    w >> 24
+    w >> 24 & 127
 }
 
-/// The type word with another kind.
+/// The type word with another kind, and no mark.
 pub fn with_kind(w: u32, kind: u32) -> u32 {
     w & 0xff_ffff | kind << 24
 }
@@ -51,6 +55,11 @@ impl<'a> Types<'a> {
 
     pub fn fields(&self, t: usize) -> &'a [u32] {
         &self.rows[t * 9 + 1..t * 9 + 9]
+    }
+
+    /// Whether field f of a record of type t is locked.
+    pub fn locked(&self, t: usize, f: usize) -> bool {
+        self.fields(t)[f] & LOCKED != 0
     }
 
     /// Whether k is a tag of t.
@@ -120,10 +129,11 @@ fn dependency(x: usize, n: usize) -> bool {
     x < n || x >= 8
 }
 
+/// The mark is not looked at: 'Q3 allows the mark, Q6 does not'.
 fn well_made(w: u32, count: usize, n: usize) -> bool {
     let (t, d, e) = (record(w), first(w), second(w));
     match kind(w) {
-        ANY => w == 0,
+        ANY => t == 0 && d == 0 && e == 0,
         REF | MAYBE => t < count && d == 0 && e == 0,
         TAGGED | PRESENT | SAME => t == 0 && dependency(d, n) && e == 0,
         RUN | FROM | IN => t < count && dependency(d, n) && dependency(e, n),
@@ -173,7 +183,7 @@ pub fn q5(r: Routine) -> Asked {
 
 pub fn q6(types: Types, r: Routine) -> Asked {
     for b in 0..r.count() {
-        if !r.annotation(b).iter().all(|&w| well_made(w, types.count(), 8)) {
+        if !r.annotation(b).iter().all(|&w| w & LOCKED == 0 && well_made(w, types.count(), 8)) {
             return no(6, b, 0);
         }
     }

@@ -91,11 +91,11 @@ fn main() {
         }
         k += 1;
     }
-    let Seen { routines, turns, changed } = seen;
+    let Seen { routines, turns, changed, locked } = seen;
     println!("compare: {k} cases in {} s, {} answers alike", began.elapsed().as_secs(), 20 * k);
     for (request, seen) in REQUESTS.iter().zip(numbers) {
         let all: String = seen.iter().map(|n| format!(" {n}")).collect();
         println!("compare: numbers of {request}:{all}");
     }
-    println!("compare: {routines} accepted routines took {turns} turns over checked memory, {changed} memories changed, all safe");
+    println!("compare: {routines} accepted routines took {turns} turns over checked memory, all safe; {changed} memories changed, {locked} locked words kept");
 }

@@ -11,11 +11,11 @@ use lib.Seq.{drop-cons, take-all}
 use borrow.Author.Tests.{lt-ltb, le-ltb, eq-eqb, ne-eqb}
 use Rattle.model.specs.declared.Reference.the-variants.{To, Nothing}
 use Rattle.model.specs.Question.{_or_, provided, Question, questionOf, Refusal}
-use Rattle.model.specs.Word.{opcodeOf, aOf, bOf, cOf}
-use Rattle.model.specs.Table.{Tables, tablesOf, headOf, wordsOf, rowOf}
-use Rattle.model.specs.Machine.{load, store}
+use Rattle.model.specs.Word.{lockedOf, opcodeOf, aOf, bOf, cOf}
+use Rattle.model.specs.Table.{Tables, tablesOf, locked, headOf, wordsOf, rowOf}
+use Rattle.model.specs.Machine.{load, store, toStore}
 use Rattle.model.specs.Reading.{rowFits, Reading, laidAt, upFrom, born, putRegister, noBase, viewed, look, loaded, stored}
-use Rattle.model.specs.Check.{valueIn, withReference, referenceIn, mayTouch, onRecord, readPlain}
+use Rattle.model.specs.Check.{valueIn, withReference, referenceIn, mayTouch, permits, onRecord, readPlain}
 use Rattle.model.proofs.Logic.{byEqual}
 use Rattle.model.proofs.Lists.{map-set, getD-past}
 use Rattle.table.proofs.Laws.{row-length, words-length, head-at, tables-size, tables-words}
@@ -98,7 +98,12 @@ module _ (types tags registers words frames constants views fields : List ℕ) (
         let z : g % 32 ≡ g = omega arith in
         rw (le-ltb base 256 h, ← sees, le-ltb since (x % 32) l, ew, er, ef, frames-set frames g g, views-set views v g, z)
 
--- ---- Q12
+-- ---- Q23 and Q12
+
+pub may-store : (types tags : List ℕ) (t c w : ℕ) (b : Bool) → w ≡ getD (wordsOf types t) c 0 → b ≡ lockedOf w
+    → not b ≡ permits (tablesOf types tags) toStore t c
+unfolding locked tablesOf
+may-store types tags t c w b ew eb = rw (eb, ew)
 
 module _ (base v : ℕ) where
   pub touch-free : 256 ≤ base → true ≡ not (ltb base noBase) or eqb base v
@@ -138,15 +143,21 @@ module _ (𝒯 : Tables) (place : Question → Refusal) (a v c : ℕ) (st : Read
   load-other m z ez st′ = rw (ez, m)
 
 module _ (𝒯 : Tables) (place : Question → Refusal) (g v t c x : ℕ) (st : Reading) where
-  pub store-other : mayTouch 𝒯 st v ≡ false → (z : ℕ) → z ≡ 12 → (st′ : Reading) → numbered place z st′ ≡ storeAsk 𝒯 place g v t c x st
+  pub store-locked : permits 𝒯 toStore t c ≡ false → (z : ℕ) → z ≡ 23 → (st′ : Reading) → numbered place z st′ ≡ storeAsk 𝒯 place g v t c x st
   unfolding numbered questionOf storeAsk provided
-  store-other m z ez st′ = rw (ez, m)
+  store-locked l z ez st′ = rw (ez, l)
 
-  store-own : mayTouch 𝒯 st v ≡ true → (st′ : Reading) → st′ ≡ stored 𝒯 st g v t c x → numbered place 0 st′ ≡ storeAsk 𝒯 place g v t c x st
-  unfolding numbered storeAsk provided
-  store-own m st′ es = rw (m, es)
+  module _ (l : permits 𝒯 toStore t c ≡ true) where
+    pub store-other : mayTouch 𝒯 st v ≡ false → (z : ℕ) → z ≡ 12 → (st′ : Reading) → numbered place z st′ ≡ storeAsk 𝒯 place g v t c x st
+    unfolding numbered questionOf storeAsk provided
+    store-other m z ez st′ = rw (ez, l, m)
+
+    store-own : mayTouch 𝒯 st v ≡ true → (st′ : Reading) → st′ ≡ stored 𝒯 st g v t c x → numbered place 0 st′ ≡ storeAsk 𝒯 place g v t c x st
+    unfolding numbered storeAsk provided
+    store-own m st′ es = rw (l, m, es)
 
 module _ (types tags : List ℕ) (place : Question → Refusal) (registers words frames constants views fields : List ℕ) (since base g v t c x n : ℕ)
+    (l : permits (tablesOf types tags) toStore t c ≡ true)
     (m : mayTouch (tablesOf types tags) (reading registers words frames constants views fields since base) v ≡ true)
     (row : List ℕ) (f : Bool) (en : n ≡ headOf types t) (er : row ≡ wordsOf types t)
     (ef : f ≡ rowFits (tablesOf types tags) (valuesOf words frames constants 0 0) n row (set fields c x))
@@ -167,11 +178,11 @@ module _ (types tags : List ℕ) (place : Question → Refusal) (registers words
 
   pub store-closes : f ≡ true
       → numbered place 0 (reading registers words frames constants views fields′ g 256) ≡ storeAsk (tablesOf types tags) place g v t c x st₀
-  store-closes q = store-own (tablesOf types tags) place g v t c x st₀ m _ (closes q)
+  store-closes q = store-own (tablesOf types tags) place g v t c x st₀ l m _ (closes q)
 
   pub store-holds : f ≡ false
       → numbered place 0 (reading registers words frames constants views fields′ since v) ≡ storeAsk (tablesOf types tags) place g v t c x st₀
-  store-holds q = store-own (tablesOf types tags) place g v t c x st₀ m _ (holds q)
+  store-holds q = store-own (tablesOf types tags) place g v t c x st₀ l m _ (holds q)
 
 module _ (𝒯 : Tables) (place : Question → Refusal) (g : ℕ) (loads : Bool) (a v t c : ℕ) (st : Reading) (n : ℕ) (en : n ≡ 𝒯 .size t) where
   pub touch-offset : n ≤ c → (z : ℕ) → z ≡ 11 → (st′ : Reading) → numbered place z st′ ≡ touched 𝒯 place g loads a v t c st

@@ -6,10 +6,11 @@ use mathlib.Core.Bool.{Bool, true}
 use lib.Dec.{ltb}
 use lib.ListN.{length}
 use denote.Ref.{now}
-use Rattle.model.specs.Question.{pick, Question, questionOf, isAnswer, q11, q12, Refusal, Outcome, ok, refused, ask}
+use Rattle.model.specs.Question.{pick, Question, questionOf, isAnswer, q11, q12, q23, Refusal, Outcome, ok, refused, ask}
 use Rattle.model.specs.Table.{Tables, headOf}
+use Rattle.model.specs.Machine.{Access, toLoad, toStore}
 use Rattle.model.specs.Reading.{Reading, look, loaded, stored}
-use Rattle.model.specs.Check.{valueIn, mayTouch}
+use Rattle.model.specs.Check.{valueIn, mayTouch, permits}
 use Rattle.known.specs.Numbers.{valuesOf, Lent}
 use Rattle.access.specs.declared.Progress.{Progress}
 
@@ -63,7 +64,7 @@ pub record Reads (registers words frames constants views fields : Lent) (s r : P
       ≡ asks place (before registers words frames constants views fields (s .since) (s .base))
   pub answers : isAnswer (r .number) ≡ true
 
--- Q12 of a load and of a store through the value v, whose record's fields are at hand, and the reading after it
+-- Q12 of a load, and Q23 and Q12 of a store, through the value v, whose record's fields are at hand, and the reading after it
 unfoldable pub loadAsk : Tables → (Question → Refusal) → ℕ → ℕ → ℕ → Reading → Outcome Reading
 loadAsk 𝒯 place a v c st =
     ask (mayTouch 𝒯 st v) (place q12) λ _.
@@ -71,12 +72,18 @@ loadAsk 𝒯 place a v c st =
 
 unfoldable pub storeAsk : Tables → (Question → Refusal) → ℕ → ℕ → ℕ → ℕ → ℕ → Reading → Outcome Reading
 storeAsk 𝒯 place g v t c x st =
+    ask (permits 𝒯 toStore t c) (place q23) λ _.
     ask (mayTouch 𝒯 st v) (place q12) λ _.
     ok (stored 𝒯 st g v t c x)
 
--- Q11 and Q12 of an access to a record of type t through the value v, and the reading after it
+-- an access, by whether it loads
+abbrev pub accessOf : Bool → Access
+accessOf loads = pick loads toLoad toStore
+
+-- Q11, Q23 and Q12 of an access to a record of type t through the value v, and the reading after it
 unfoldable pub touched : Tables → (Question → Refusal) → ℕ → Bool → ℕ → ℕ → ℕ → ℕ → Reading → Outcome Reading
 touched 𝒯 place g loads a v t c st =
     ask (ltb c (𝒯 .size t)) (place q11) λ _.
+    ask (permits 𝒯 (accessOf loads) t c) (place q23) λ _.
     ask (mayTouch 𝒯 st v) (place q12) λ _.
     pick loads (ok (loaded (look 𝒯 st g v t) a c)) (ok (stored 𝒯 (look 𝒯 st g v t) g v t c (valueIn st a)))

@@ -1,4 +1,4 @@
-// The reading of a block, and its loads and stores: Q10 to Q12.
+// The reading of a block, and its loads and stores: Q10 to Q12, and Q23.
 //
 // A block's reading is held in local arrays of one function, lent to the others: the value in each register, the type word,
 // frame and constant of each value, the fields seen through each value, and the fields of the record at hand. Every contract
@@ -11,8 +11,9 @@ ghost use lib.Dec.{eqb, ltb};
 ghost use mathlib.Core.Bool.{true, not};
 ghost use Rattle.model.specs.Question.{_or_, Question, Refusal, isAnswer};
 ghost use Rattle.model.specs.Table.{tablesOf, headOf};
+ghost use Rattle.model.specs.Machine.{toStore};
 ghost use Rattle.model.specs.Reading.{laidAt, upFrom, look, rowFits};
-ghost use Rattle.model.specs.Check.{readPlain};
+ghost use Rattle.model.specs.Check.{permits, readPlain};
 ghost use Rattle.instruction.specs.Form.{plainOf, Inside};
 ghost use Rattle.known.specs.Numbers.{tablesIn, valuesIn};
 ghost use Rattle.access.specs.State.{reading, Sizes, numbered, Reads, loadAsk, storeAsk, touched};
@@ -141,6 +142,14 @@ fn look(
     name_all(fields, 8 * (g as u32));
 }
 
+// Q23: field c of a record of type t is not locked.
+fn may_store(types: &[u32], t: u32, c: u32) -> bool
+    requires { ⌜ (t * 9 + 9 ≤ length (now types)) × (c < 8) ⌝ }
+    ensures { λ r. ⌜ ((tags : List ℕ) → r ≡ permits (tablesOf (now (types .entry)) tags) toStore t c) ⌝ }
+{
+    !word::locked(table::type_word(types, t as usize, c as usize))
+}
+
 // Q12: no record is open, or v opened it.
 fn may_touch(base: u32, v: u8) -> bool
     ensures { λ r. ⌜ r ≡ (not (ltb base 256) or eqb base v) ⌝ }
@@ -190,7 +199,7 @@ fn put(
     fits::row_fits(tags, words, frames, constants, 0, n as usize, row, fields)
 }
 
-// Q12 of a store, and the field of the record, of size n, is the value. It closes if each field fits its type.
+// Q23 and Q12 of a store, and the field of the record, of size n, is the value. It closes if each field fits its type.
 fn store(
     types: &[u32],
     tags: &[u32],
@@ -211,6 +220,9 @@ fn store(
         (reading registers (now (words .entry)) (now (frames .entry)) (now (constants .entry)) views (now (fields .entry)) (s .since) (s .base)))
         × (isAnswer (r .number) ≡ true) ⌝ }
 {
+    if !may_store(types, x.t, x.c) {
+        return refused(number::LOCKED_FIELD, s);
+    }
     if !may_touch(s.base, x.v) {
         return refused(number::OTHER_RECORD, s);
     }
@@ -242,8 +254,8 @@ fn store(
     }
 }
 
-// A load or a store: Q11 and Q12. The size past the table is 0, so that Q11 has a no there. A look leaves an open record's fields
-// at hand, so that it can come before Q12.
+// A load or a store: Q11, Q23 and Q12. The size past the table is 0, so that Q11 has a no there. A look leaves an open record's fields
+// at hand, so that it can come before Q23 and Q12.
 fn touch(
     types: &[u32],
     tags: &[u32],
@@ -284,7 +296,7 @@ fn touch(
     )
 }
 
-// A load or a store: Q10 to Q12.
+// A load or a store: Q10, Q11, Q23 and Q12.
 pub fn access(
     types: &[u32],
     tags: &[u32],

@@ -75,7 +75,7 @@ fn next_kind(
     kind: u32,
     x: u32,
 ) -> u32
-    requires { ⌜ (u < 256) × (kind < 255) × (x < 256) ⌝ }
+    requires { ⌜ (u < 256) × (kind < 8) × (x < 256) ⌝ }
     ensures { λ r. ⌜ r ≡ nextKind (valuesIn words frames constants 0 0) v u kind x ⌝ }
 {
     let w = words[v as usize];

@@ -12,7 +12,8 @@ use Rattle.model.specs.Turns.{Task, World, Standing, waiting, done, Call, turn,
 use Rattle.model.specs.Turns.{afterCall, Allowed}
 use Rattle.model.specs.Exactness.{ShowsNothing}
 use Rattle.model.specs.Safety.{Checked}
-use Rattle.model.specs.Cases.{plotTypes, plotTags}
+use Rattle.model.specs.Cases.{plotTags}
+use Rattle.model.specs.Locks.{lockedPlotTypes}
 use Rattle.model.proofs.RunEnds.{run-exact}
 use Rattle.model.proofs.Example.{allocations, memory, tasks, checked}
 use Rattle.loader.specs.Delivery.{RunGave, Passed, Calls, checked as check-made, turned as turn-made, ran}
@@ -52,6 +53,6 @@ pub allowed-shows : (C : Code) (g : Ready) (budget : ℕ) (w : World) (a : RunAn
     → Allowed (running C g budget) w ↔ ShowsNothing C (w .memory) g budget a
 allowed-shows C g budget w a left q = rw (q .0) (run-exact C (w .memory) g budget .nothing)
 
--- two routines over two plots have passed
-pub example-passed : Passed plotTypes plotTags allocations memory 2 tasks
-example-passed = passed plotTypes plotTags allocations memory 2 tasks checked
+-- two routines over two plots with locked weights have passed
+pub example-passed : Passed lockedPlotTypes plotTags allocations memory 2 tasks
+example-passed = passed lockedPlotTypes plotTags allocations memory 2 tasks checked

@@ -1,8 +1,9 @@
--- The cases marked * hold, and so do those that tell wrong readings apart, and those of card 13: each is computed.
+-- The cases marked * hold, and so do those that tell wrong readings apart, and those of cards 13 and 1: each is computed.
 use mathlib.Core.Path.{refl}
 use Rattle.model.specs.Cases.{Cases}
 use Rattle.model.specs.Misreadings.{Misreadings}
 use Rattle.model.specs.Chains.{ChainCases}
+use Rattle.model.specs.Locks.{LockCases}
 use Rattle.model.proofs.Compute.{computed}
 
 pub cases-hold : Cases
@@ -87,4 +88,32 @@ chains-hold =
       noReference = (refl, refl);
       noRefinement = (refl, refl);
       withStores = (refl, refl);
+    }
+
+pub locks-hold : LockCases
+unfolding computed
+locks-hold =
+    record {
+      overTheRaw = refl;
+      inTheCorrected = refl;
+      ofTheRaw = refl;
+      written = refl;
+      writtenBack = refl;
+      beside = refl;
+      past = refl;
+      whileOpen = refl;
+      besideWhileOpen = refl;
+      loadWhileOpen = refl;
+      followed = refl;
+      closed = refl;
+      behind = refl;
+      ofAField = refl;
+      otherKind = refl;
+      pastTheFields = refl;
+      annotation = refl;
+      annotatedRef = refl;
+      met = refl;
+      unmet = refl;
+      entered = refl;
+      notEntered = refl;
     }

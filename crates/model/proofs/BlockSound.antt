@@ -15,7 +15,7 @@ use Rattle.model.specs.Table.{Tables, Routine, lastAt}
 use Rattle.model.specs.Meaning.{Allocation}
 use Rattle.model.specs.Machine.{Plain, load, store, End, Instruction, plain, end, malformed, instructionAt, reg, effect, registersAfter}
 use Rattle.model.specs.Machine.{memoryAfter, Next, stop, enter, next, State, goes, halts, after, atHalt, entering, leave, perform, step}
-use Rattle.model.specs.Machine.{carryOut, formAsk}
+use Rattle.model.specs.Machine.{carryOut, formAsk, Access, toLoad, toStore}
 use Rattle.model.specs.Reading.{Reading, entry, isOpen}
 use Rattle.model.specs.Check.{onRecord, readPlain, readInstruction, readAt, readOn, blockAsk, readingAt, referenceIn, noAt, readEnd}
 use Rattle.model.proofs.Logic.{ask-ok, then-ok, passed-then, ok-then, ok-same, not-ok, not-true}
@@ -238,10 +238,10 @@ module _ (𝒯 : Tables) (Is : Allocation) (memory₀ : List ℕ) (narrow : leng
       pub below : c < 𝒯 .size type
       pub unwrapped : sum (reg (s .registers) b) c ≡ reg (s .registers) b + c
 
-    field-ok : (s : State) (a : At s) (b c : ℕ) (st' : Reading) (k : ℕ → Outcome Reading) → b < 8
-        → onRecord 𝒯 (noAt 𝒯 P (s .block) (s .offset)) (a .reading) b c k ≡ ok st' → Field s b c
-    field-ok s a b c st' k h q =
-        let R = record-ok 𝒯 _ (a .reading) b c st' k q in
+    field-ok : (s : State) (a : At s) (x : Access) (b c : ℕ) (st' : Reading) (k : ℕ → Outcome Reading) → b < 8
+        → onRecord 𝒯 (noAt 𝒯 P (s .block) (s .offset)) x (a .reading) b c k ≡ ok st' → Field s b c
+    field-ok s a x b c st' k h q =
+        let R = record-ok 𝒯 _ x (a .reading) b c st' k q in
         let ρ = valuation P (s .block) (a .origin) in
         let C = access-ok 𝒯 Is memory₀ narrow law tab ρ (a .reading) (s .registers) (s .memory) (suc (s .offset)) b c (R .type)
         (a .tidy) (a .mirrors) h (R .reference) (R .below) in
@@ -262,11 +262,11 @@ module _ (𝒯 : Tables) (Is : Allocation) (memory₀ : List ℕ) (narrow : leng
     load-field s t a b c e =
         let (st', q) = passed-at s t in
         let f : (a < 8) × (b < 8) = rw e at (decode-fine (getD (P .part (s .block)) (s .offset) 0)) in
-        field-ok s t b c st' _ (f .1) (ask-ok _ _ _ (rw e at q) .1)
+        field-ok s t toLoad b c st' _ (f .1) (ask-ok _ _ _ (rw e at q) .1)
 
     pub store-field : (s : State) → At s → (a b c : ℕ) → instructionAt P (s .block) (s .offset) ≡ plain (store a b c) → Field s b c
     unfolding readInstruction formAsk readPlain
     store-field s t a b c e =
         let (st', q) = passed-at s t in
         let f : (a < 8) × (b < 8) = rw e at (decode-fine (getD (P .part (s .block)) (s .offset) 0)) in
-        field-ok s t b c st' _ (f .1) (ask-ok _ _ _ (rw e at q) .1)
+        field-ok s t toStore b c st' _ (f .1) (ask-ok _ _ _ (rw e at q) .1)

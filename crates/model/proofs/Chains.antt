@@ -20,7 +20,7 @@ use Rattle.model.specs.Rules.{tagged-maybe, present-present, present-ref
 use Rattle.model.specs.ReadingRules.{becoming}
 use Rattle.model.specs.Values.{Values, typed, knownEqual}
 use Rattle.model.specs.Machine.{Plain, constant, copy, add, subtract, multiply, divide, move, load, store, End, halt, jump, ifEqual, ifLess}
-use Rattle.model.specs.Machine.{Instruction, plain, end, malformed, formed, byOpcode, decode, instructionAt, formAsk}
+use Rattle.model.specs.Machine.{Instruction, plain, end, malformed, formed, byOpcode, decode, instructionAt, formAsk, toLoad}
 use Rattle.model.specs.Reading.{rowFits, Reading, born, fresh, isOpen, seen, look, viewed, loaded, rekinded, notZero, below, notBelow, taken}
 use Rattle.model.specs.Reading.{untaken, entry}
 use Rattle.model.specs.Check.{valueIn, referenceIn, readPlain, edgeMeets, readEdges, noAt, readEnd, readInstruction, readOn, blockAsk, judge}
@@ -184,7 +184,7 @@ module _ (𝒯 : Tables) (vs : Values) (Z : Chained vs) where
     span-kept j q t d e h l true true f g = as-strong _
     span-kept j q t d e h l true false f g = absurd (false≢true (f refl))
     span-kept j q t d e h l false true f g =
-        subst (λ (K : Known). Stronger (knownOf vs) K) (sym (span-known 𝒯 vs Z v there q j t d e h))
+        subst (λ (K : Known). Stronger (knownOf vs) K) (sym (span-known 𝒯 vs Z v there q j t d e l h))
         (becoming-stronger 𝒯 (knownOf vs) v (span q t d e) (rw h (higher (g refl) l)))
     span-kept j q t d e h l false false f g = as-strong _
 
@@ -294,13 +294,13 @@ module _ (𝒯 : Tables) where
   plain-kept place g (divide a b c) st st' n T q = record { reading = _; is = sym (ok-same q); reads = refl }
   plain-kept place g (move a b c) st st' n T q = record { reading = _; is = sym (ok-same q); reads = refl }
   plain-kept place g (load a b c) st st' n T q =
-      let R = record-ok 𝒯 place (readingApart st) b c st' _ q in
+      let R = record-ok 𝒯 place toLoad (readingApart st) b c st' _ q in
       let t = R .type in
       let v = valueIn st b in
       record {
         reading = loaded (look 𝒯 st g v t) a c;
         is = sym (ok-same (R .rest)) ∙ ap (λ (y : Reading). loaded y a c) (look-apart st g v t) ∙ loaded-apart (look 𝒯 st g v t) a c;
-        reads = record-again 𝒯 place st b c t _ (reference-kept st g b t T (R .reference)) (R .below) (R .touch);
+        reads = record-again 𝒯 place toLoad st b c t _ (reference-kept st g b t T (R .reference)) (R .below) refl (R .touch);
       }
   plain-kept place g (store a b c) st st' n T q = absurd n
 

@@ -2,7 +2,7 @@
 use Rattle.model.specs.Question.{_and_, _or_, every, then, firstNo, verdictOf, inOrder, provided}
 use Rattle.model.specs.Word.{product}
 use Rattle.model.specs.Types.{typeOf, rename}
-use Rattle.model.specs.Table.{rowOf, tablesOf, startOf, routineOf, typeLengthsAsk, codeLengthsAsk, countAsk, wellMade, fieldWell, fieldsAsk}
+use Rattle.model.specs.Table.{rowOf, tablesOf, locked, startOf, routineOf, typeLengthsAsk, codeLengthsAsk, countAsk, wellMade, fieldWell, fieldsAsk}
 use Rattle.model.specs.Table.{tagAsk, typesAsk, blocksAsk, lengthsAsk, annotationWell, annotationAsk, annotationsAsk, startAsk, memoryLengthAsk}
 use Rattle.model.specs.Table.{tablesAsk}
 use Rattle.model.specs.Allocation.{isAllocated, laid, rowsAsk, allocationsAsk}
@@ -24,7 +24,7 @@ unfolding
     _and_ _or_ every provided then inOrder firstNo verdictOf
     product
     typeOf rename
-    rowOf tablesOf startOf routineOf typeLengthsAsk codeLengthsAsk countAsk wellMade fieldWell fieldsAsk tagAsk typesAsk blocksAsk
+    rowOf tablesOf locked startOf routineOf typeLengthsAsk codeLengthsAsk countAsk wellMade fieldWell fieldsAsk tagAsk typesAsk blocksAsk
     lengthsAsk annotationWell annotationAsk annotationsAsk startAsk memoryLengthAsk
     isAllocated laid rowsAsk allocationsAsk
     formed byOpcode decode targetsExist formAsk effect addressed registersAfter memoryAfter next leave carryOut perform step

@@ -91,13 +91,13 @@ module _ (𝒯 : Tables) (Is : Allocation) (memory₀ : List ℕ) (narrow : leng
   abbrev withRank : Values → ℕ → ℕ → Ty
   withRank vs v k = rename (frame vs v) (ofKind k (recordOf (wordAt vs v)) (depOf (firstOf (wordAt vs v))) (depOf (secondOf (wordAt vs v))))
 
-  rekinded-ok : (vs : Values) (v k : ℕ) → ValuesOk 𝒯 Is ρ vs → Mean 𝒯 Is (withRank vs v k) ρ (ρ v) → ValuesOk 𝒯 Is ρ (rekinded vs v k)
+  rekinded-ok : (vs : Values) (v k : ℕ) → k ≤ 8 → ValuesOk 𝒯 Is ρ vs → Mean 𝒯 Is (withRank vs v k) ρ (ρ v) → ValuesOk 𝒯 Is ρ (rekinded vs v k)
   unfolding typed
-  rekinded-ok vs v k H M =
+  rekinded-ok vs v k small H M =
       record {
         types =
             set-every (λ j x. Mean 𝒯 Is (rename (frame vs j) (typeOf x)) ρ (ρ j)) (vs .words) v (withKind k (wordAt vs v)) 0 (H .types)
-            (rw (kinded k (wordAt vs v)) M);
+            (rw (kinded k (wordAt vs v) small) M);
         constants = H .constants;
         tested = H .tested;
       }
@@ -113,8 +113,8 @@ module _ (𝒯 : Tables) (Is : Allocation) (memory₀ : List ℕ) (narrow : leng
   unfolding rename notZero
   notZero-kind vs v zero H n m = H
   notZero-kind vs v (suc zero) H n m = H
-  notZero-kind vs v (suc (suc zero)) H n m = rekinded-ok vs v 1 H (either m (λ z. absurd (n z)) (λ a. a))
-  notZero-kind vs v (suc (suc (suc zero))) H n m = rekinded-ok vs v 4 H (either m (λ z. absurd (n z)) (λ a. a), n)
+  notZero-kind vs v (suc (suc zero)) H n m = rekinded-ok vs v 1 (omega arith) H (either m (λ z. absurd (n z)) (λ a. a))
+  notZero-kind vs v (suc (suc (suc zero))) H n m = rekinded-ok vs v 4 (omega arith) H (either m (λ z. absurd (n z)) (λ a. a), n)
   notZero-kind vs v (suc (suc (suc (suc zero)))) H n m = H
   notZero-kind vs v (suc (suc (suc (suc (suc zero))))) H n m = H
   notZero-kind vs v (suc (suc (suc (suc (suc (suc k)))))) H n m = H
@@ -138,7 +138,7 @@ module _ (𝒯 : Tables) (Is : Allocation) (memory₀ : List ℕ) (narrow : leng
       byTest (eqb k 1 and knownEqual vs (name w) (renameDep (frame vs v) (depOf (secondOf (wordAt vs v)))))
       (λ q. let (one, e) = and-true _ _ q in
       let r : wordOf ρ (renameDep (frame vs v) (depOf (firstOf (wordAt vs v)))) ≤ ρ v = rw (eqb-true k 1 one) at (m .1) in
-      rw q (rekinded-ok vs v 8 H (m .0, (r, rw (← known-word vs w _ H e) l))))
+      rw q (rekinded-ok vs v 8 (omega arith) H (m .0, (r, rw (← known-word vs w _ H e) l))))
       (λ q. rw q H)
 
   below-ok : (vs : Values) (v w : ℕ) → ValuesOk 𝒯 Is ρ vs → ρ v < ρ w → ValuesOk 𝒯 Is ρ (below vs v w (typed vs v))
@@ -155,7 +155,7 @@ module _ (𝒯 : Tables) (Is : Allocation) (memory₀ : List ℕ) (narrow : leng
   notBelow-kind vs v w (suc (suc (suc (suc (suc zero))))) H l m = H
   notBelow-kind vs v w (suc (suc (suc (suc (suc (suc k)))))) H l m =
       byTest (eqb k 0 and knownEqual vs (name w) (renameDep (frame vs v) (depOf (firstOf (wordAt vs v)))))
-      (λ q. let (one, e) = and-true _ _ q in rw q (rekinded-ok vs v 7 H (m .0, rw (← known-word vs w _ H e) l)))
+      (λ q. let (one, e) = and-true _ _ q in rw q (rekinded-ok vs v 7 (omega arith) H (m .0, rw (← known-word vs w _ H e) l)))
       (λ q. rw q H)
 
   notBelow-ok : (vs : Values) (v w : ℕ) → ValuesOk 𝒯 Is ρ vs → ρ w ≤ ρ v → ValuesOk 𝒯 Is ρ (notBelow vs v w (typed vs v))

@@ -1,14 +1,19 @@
--- The assumptions of demand 3 can be met: two routines over two plots, one of which stores, take turns.
+-- The assumptions of demand 3 can be met: two routines over two plots with locked weights, one of which stores, take turns.
 use mathlib.Core.Path.{_≡_, refl}
 use mathlib.Core.List.{List, [], _∷_, _++_}
 use Prim.Native.Nat.{ℕ, zero, suc, _<_}
-use Rattle.model.specs.Table.{codeOf}
-use Rattle.model.specs.Machine.{ready}
+use native.Mathlib.Omega.{arith}
+use lib.ListN.{getD}
+use Rattle.model.specs.Table.{tablesOf, codeOf}
+use Rattle.model.specs.Meaning.{Locked}
+use Rattle.model.specs.Allocation.{Allocated}
+use Rattle.model.specs.Machine.{State, ready}
 use Rattle.model.specs.Check.{check}
 use Rattle.model.specs.MemoryCheck.{entryCheck}
 use Rattle.model.specs.Turns.{afterCall, atStart, Task, done, World, Call, turn, checkingMemory, running}
-use Rattle.model.specs.Safety.{Checked, Safe}
-use Rattle.model.specs.Cases.{plotTypes, plotTags, row, refWord, sameWord, constantByte, storeWord, jumpWord, haltWord, stageBlocks, stageCode}
+use Rattle.model.specs.Safety.{Checked, Visits, Safe}
+use Rattle.model.specs.Cases.{plotTags, row, refWord, sameWord, constantByte, storeWord, jumpWord, haltWord, stageBlocks, stageCode}
+use Rattle.model.specs.Locks.{lockedPlotTypes}
 use Rattle.model.proofs.Compute.{computed}
 use Rattle.model.proofs.Safe.{demand-3}
 
@@ -40,7 +45,7 @@ abbrev pub tasks : ℕ → Task
 tasks zero = correction
 tasks (suc i) = ranking
 
-pub checked : Checked plotTypes plotTags allocations memory 2 tasks
+pub checked : Checked lockedPlotTypes plotTags allocations memory 2 tasks
 unfolding computed
 checked =
     record {
@@ -50,7 +55,7 @@ checked =
       entered = λ i h. (memory, enters i);
     }
   where
-    accepts : (i : ℕ) → check plotTypes plotTags (tasks i .code) .number ≡ 0
+    accepts : (i : ℕ) → check lockedPlotTypes plotTags (tasks i .code) .number ≡ 0
     accepts zero = refl
     accepts (suc i) = refl
 
@@ -58,14 +63,24 @@ checked =
     eight zero = refl
     eight (suc i) = refl
 
-    enters : (i : ℕ) → entryCheck plotTypes plotTags allocations memory (tasks i .code) (tasks i .start) .number ≡ 0
+    enters : (i : ℕ) → entryCheck lockedPlotTypes plotTags allocations memory (tasks i .code) (tasks i .start) .number ≡ 0
     enters zero = refl
     enters (suc i) = refl
 
 -- so every list of calls over them is safe
-pub example-safe : (calls : List Call) → Safe plotTypes plotTags allocations memory 2 tasks calls (atStart tasks 2 memory)
+pub example-safe : (calls : List Call) → Safe lockedPlotTypes plotTags allocations memory 2 tasks calls (atStart tasks 2 memory)
 unfolding Rattle.model.specs.Safety.Demand3
-example-safe calls = demand-3 plotTypes plotTags allocations memory 2 tasks checked calls
+example-safe calls = demand-3 lockedPlotTypes plotTags allocations memory 2 tasks checked calls
+
+-- the raw weight at 5 is a locked word, so it is 8600 at every state that a turn of the correction passes through
+weight-locked : Locked (tablesOf lockedPlotTypes plotTags) (Allocated allocations) 5
+unfolding computed
+weight-locked = record { start = 5; type = 0; field = 0; allocated = refl; within = omega arith; marked = refl; at = refl }
+
+pub weight-kept : (k : ℕ) (s : State) → Visits lockedPlotTypes plotTags allocations memory 2 tasks (atStart tasks 2 memory) 0 k (correction .start) s
+    → getD (s .memory) 5 0 ≡ 8600
+unfolding atStart
+weight-kept k s p = example-safe (turn 0 k ∷ []) .1 (correction .start) refl .lockedKept s p 5 weight-locked
 
 abbrev afterAll : List Call → World → World
 afterAll [] w = w

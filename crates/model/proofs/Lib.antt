@@ -12,6 +12,7 @@ pub mod Inversion
 pub mod Tidy
 pub mod Unique
 pub mod Mean
+pub mod Mark
 pub mod Lawful
 pub mod TableLaws
 pub mod TableRules

@@ -9,7 +9,7 @@ use lib.Dec.{ltb, eqb}
 use borrow.Author.Tests.{eqb-true, eqb-false, eq-eqb, ne-eqb, ltb-true, ltb-false}
 use Rattle.model.specs.declared.Verdict.{Verdict}
 use Rattle.model.specs.Question.{_and_, _or_, pick, every, Question, numberOf, questions, withNumber, questionOf, isNumber, isAnswer, q1, q2}
-use Rattle.model.specs.Question.{q3, q4, q5, q6, q7, q8, q9, q10, q11, q12, q13, q14, q15, q16, q17, q18, q19, q20, q21, Refusal, Outcome}
+use Rattle.model.specs.Question.{q3, q4, q5, q6, q7, q8, q9, q10, q11, q12, q13, q14, q15, q16, q17, q18, q19, q20, q21, q23, Refusal, Outcome}
 use Rattle.model.specs.Question.{ok, refused, ask, then, firstNo, verdictOf, provided, inOrder, AllPassed, FirstRefused, at-once, further}
 use Rattle.model.specs.Question.{FirstNo, refusing}
 
@@ -70,6 +70,10 @@ or-of-true false b p = p
 pub not-true : (b : Bool) → not b ≡ true → b ≡ false
 not-true true e = absurd (false≢true e)
 not-true false e = refl
+
+pub not-false : (b : Bool) → not b ≡ false → b ≡ true
+not-false true e = refl
+not-false false e = absurd (false≢true (sym e))
 
 -- what an answer b tells of the test t that it stands for, past `not b`
 pub test-false : {t b : Bool} → b ≡ t → not b ≡ true → t ≡ false
@@ -273,6 +277,7 @@ listed q18 = refl
 listed q19 = refl
 listed q20 = refl
 listed q21 = refl
+listed q23 = refl
 
 pub answer-of : (n : ℕ) (q : Question) → n ≡ numberOf q → isAnswer n ≡ true
 answer-of n q e =

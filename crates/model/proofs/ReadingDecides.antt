@@ -11,25 +11,25 @@ use lib.ListN.{length, getD, set}
 use borrow.Author.Tests.{eqb-true, eq-eqb, lt-ltb, le-ltb, ltb-true, ltb-false}
 use Rattle.model.specs.declared.Reference.{Reference}
 use Rattle.model.specs.declared.Reference.the-variants.{To, Nothing}
-use Rattle.model.specs.Question.{_and_, _or_, Question, q10, q11, q12, Refusal, Outcome, ok, refused, ask, provided}
+use Rattle.model.specs.Question.{_and_, _or_, Question, q10, q11, q12, q23, Refusal, Outcome, ok, refused, ask, provided}
 use Rattle.model.specs.Word.{recordOf, firstOf, secondOf, signed}
 use Rattle.model.specs.Types.{Dep, Ty, any, ref, maybe, tagged, present, same, span, depOf, typeOf, rename, renameDep}
 use Rattle.model.specs.Table.{Tables}
-use Rattle.model.specs.Machine.{Plain, constant, copy, add, subtract, multiply, divide, move, load, store}
+use Rattle.model.specs.Machine.{Plain, constant, copy, add, subtract, multiply, divide, move, load, store, Access, toLoad, toStore}
 use Rattle.model.specs.Rules.{Fits}
 use Rattle.model.specs.ReadingRules.{BlockState, holding, giving, closing, opening, PowerOfTwo, size-1, size-2, size-4, size-8, Divides}
-use Rattle.model.specs.ReadingRules.{RowFits, Moves, Walks, NoMove, NoWalk, MayAccess, Sees, newly, again, Closes, Reads, copies, constants}
+use Rattle.model.specs.ReadingRules.{RowFits, Moves, Walks, NoMove, NoWalk, Permits, MayAccess, Sees, newly, again, Closes, Reads, copies, constants}
 use Rattle.model.specs.ReadingRules.{adds, subtracts, multiplies, divides, moves-any, moves-from, moves-run, loads, opens, closes, AccessNo, no-reference}
-use Rattle.model.specs.ReadingRules.{past-the-size, another-open, PlainNo, load-no, store-no}
+use Rattle.model.specs.ReadingRules.{past-the-size, locked-field, another-open, PlainNo, load-no, store-no, loads-any, stores-unlocked}
 use Rattle.model.specs.Values.{Values, birthplace, typed}
 use Rattle.model.specs.Reading.{rowFits, referenceOf, Reading, fresh, powerOfTwo, onSpan, moves, walks, movedWord, isOpen, seen, viewed, look}
 use Rattle.model.specs.Reading.{loaded, stored}
-use Rattle.model.specs.Check.{valueIn, withReference, referenceIn, mayTouch, onRecord, readPlain}
-use Rattle.model.proofs.Logic.{byTest, byLess, either, true-and, or-true, not-true, every-true, true-every, ok-same}
+use Rattle.model.specs.Check.{valueIn, withReference, referenceIn, mayTouch, permits, onRecord, readPlain}
+use Rattle.model.proofs.Logic.{byTest, byLess, either, true-and, or-true, not-true, not-false, every-true, true-every, ok-same}
 use Rattle.model.proofs.Logic.{not-ok, refused-same, pick-both}
 use Rattle.model.proofs.KnownValues.{optionOf, knownOf}
 use Rattle.model.proofs.RulesDecide.{Chained, fits-rule, rule-fits}
-use Rattle.model.proofs.Inversion.{record-ok, may-touch, record-again, moves-span, walks-span}
+use Rattle.model.proofs.Inversion.{OnRecord, record-ok, may-touch, record-again, moves-span, walks-span}
 use Rattle.model.proofs.Decode.{PlainFine}
 use Rattle.model.proofs.Tidy.{Tidy, look-tidy}
 use Rattle.model.proofs.Mean.{kinded}
@@ -115,7 +115,7 @@ module _ (𝒯 : Tables) where
   unfolding rowFits
   rule-row vs Z n row values R = true-every n 0 _ (λ i lo hi. rule-fits 𝒯 vs Z _ _ (R i (omega arith)))
 
-  -- ---- Q10, Q11 and Q12
+  -- ---- Q10, Q11, Q23 and Q12
 
   -- no record is open, or v is the very value that opened it
   abbrev Touchable : Reading → ℕ → Type 0
@@ -134,18 +134,33 @@ module _ (𝒯 : Tables) where
       (λ q. inl q)
 
   -- the access through register b at offset c is one to a record of type t
-  abbrev Accessible : Reading → ℕ → ℕ → ℕ → Type 0
-  Accessible st b c t = MayAccess 𝒯 (stateOf st) (valueIn st b) c t
+  abbrev Accessible : Access → Reading → ℕ → ℕ → ℕ → Type 0
+  Accessible x st b c t = MayAccess 𝒯 x (stateOf st) (valueIn st b) c t
 
-  access-rule : (st : Reading) (b c t : ℕ) → referenceIn 𝒯 st b ≡ To t → c < 𝒯 .size t → Touchable st (valueIn st b) → Accessible st b c t
-  access-rule st b c t r h touch =
-      record { reference = reference-fits 𝒯 (st .values) (valueIn st b) t r; below = h; touch = touch-rule st (valueIn st b) touch }
+  -- the field may be loaded or stored, in the test and by the rule
+  permits-rule : (x : Access) (t c : ℕ) → permits 𝒯 x t c ≡ true → Permits 𝒯 t c x
+  permits-rule toLoad t c p = loads-any
+  permits-rule toStore t c p = stores-unlocked (not-true _ p)
 
-  rule-access : (place : Question → Refusal) (st : Reading) (g b c t : ℕ) (k : ℕ → Outcome Reading) → Tidy st g → Accessible st b c t
-      → onRecord 𝒯 place st b c k ≡ k t
-  rule-access place st g b c t k T A =
+  rule-permits : (x : Access) (t c : ℕ) → Permits 𝒯 t c x → permits 𝒯 x t c ≡ true
+  rule-permits toLoad t c loads-any = refl
+  rule-permits toStore t c (stores-unlocked u) = rw u refl
+
+  access-rule : (x : Access) (st : Reading) (b c : ℕ) (st' : Reading) (k : ℕ → Outcome Reading) (R : OnRecord 𝒯 x st b c st' k)
+      → Accessible x st b c (R .type)
+  access-rule x st b c st' k R =
+      record {
+        reference = reference-fits 𝒯 (st .values) (valueIn st b) (R .type) (R .reference);
+        below = R .below;
+        permitted = permits-rule x (R .type) c (R .permitted);
+        touch = touch-rule st (valueIn st b) (R .touch);
+      }
+
+  rule-access : (place : Question → Refusal) (x : Access) (st : Reading) (g b c t : ℕ) (k : ℕ → Outcome Reading) → Tidy st g → Accessible x st b c t
+      → onRecord 𝒯 place x st b c k ≡ k t
+  rule-access place x st g b c t k T A =
       let reference : referenceIn 𝒯 st b ≡ To t = reference-decides 𝒯 (st .values) g (T .values) (valueIn st b) t .1 (A .reference) in
-      record-again 𝒯 place st b c t k reference (A .below) (rule-touch st (valueIn st b) (A .touch))
+      record-again 𝒯 place x st b c t k reference (A .below) (rule-permits x t c (A .permitted)) (rule-touch st (valueIn st b) (A .touch))
 
   sees-one : {j v t : ℕ} {s s₁ s₂ : BlockState} {fs fs' : List ℕ} → Sees 𝒯 j v t s fs s₁ → Sees 𝒯 j v t s fs' s₂ → (fs ≡ fs') × (s₁ ≡ s₂)
   sees-one {fs = fs} {fs' = fs'} (again e) (again f) = (Option·some-injective fs fs' (sym e ∙ f), refl)
@@ -212,9 +227,9 @@ module _ (𝒯 : Tables) where
     unfolding movedWord rename typed over
     moved-reads a b c l =
         byTest (walks 𝒯 (typeOf (wordIn b)) c)
-        (λ o. let W = span-walks b c o in rw (o, kinded 7 (wordIn b)) (moves-from W))
+        (λ o. let W = span-walks b c o in rw (o, kinded 7 (wordIn b) (omega arith)) (moves-from W))
         (λ o. byTest (moves 𝒯 (typeOf (wordIn b)) c)
-        (λ q. let M = span-moves b c l q in rw (o, q, kinded 6 (wordIn b)) (moves-run M (no-walk b c o)))
+        (λ q. let M = span-moves b c l q in rw (o, q, kinded 6 (wordIn b) (omega arith)) (moves-run M (no-walk b c o)))
         (λ q. rw (o, q) (unfold typeOf in (moves-any
         (λ t d e M. false≢true (sym q ∙ renamed-moves (λ x. frameIn b + x) (typeOf (wordIn b)) c t d e l M)) (no-walk b c o)))))
 
@@ -250,7 +265,7 @@ module _ (𝒯 : Tables) where
         → stateOf (storedIn a b c t) ≡ opening (stateOf (looked b t)) (valueIn st b) (set (looked b t .fields) c (valueIn st a))
     opened-in a b c t touch q = opened-state 𝒯 (looked b t) (suc j) (valueIn st b) t c (valueIn st a) (named b) (looked-touch b t touch) q
 
-    stored-reads : (a b c t : ℕ) → Accessible st b c t → Touchable st (valueIn st b)
+    stored-reads : (a b c t : ℕ) → Accessible toStore st b c t → Touchable st (valueIn st b)
         → Reads 𝒯 j (stateOf st) (store a b c) (stateOf (storedIn a b c t))
     stored-reads a b c t A touch =
         byTest (rowCloses a b c t)
@@ -275,15 +290,15 @@ module _ (𝒯 : Tables) where
     plain-reads (divide a b c) F st' q = along (sym (any-state a 0) ∙ states-after q) divides
     plain-reads (move a b c) F st' q = along (sym (moved-state a b c) ∙ states-after q) (moved-reads a b c (F .1))
     plain-reads (load a b c) F st' q =
-        let R = record-ok 𝒯 place st b c st' _ q in
-        along (states-after (R .rest)) (loads (access-rule st b c (R .type) (R .reference) (R .below) (R .touch)) (looked-sees b (R .type) (R .touch)))
+        let R = record-ok 𝒯 place toLoad st b c st' _ q in
+        along (states-after (R .rest)) (loads (access-rule toLoad st b c st' _ R) (looked-sees b (R .type) (R .touch)))
     plain-reads (store a b c) F st' q =
-        let R = record-ok 𝒯 place st b c st' _ q in
-        along (states-after (R .rest)) (stored-reads a b c (R .type) (access-rule st b c (R .type) (R .reference) (R .below) (R .touch)) (R .touch))
+        let R = record-ok 𝒯 place toStore st b c st' _ q in
+        along (states-after (R .rest)) (stored-reads a b c (R .type) (access-rule toStore st b c st' _ R) (R .touch))
 
     -- ---- and back
 
-    touched : (b c t : ℕ) → Accessible st b c t → Touchable st (valueIn st b)
+    touched : {x : Access} (b c t : ℕ) → Accessible x st b c t → Touchable st (valueIn st b)
     touched b c t A = rule-touch st (valueIn st b) (A .touch)
 
     -- the type after a move is the one that its rule gives
@@ -294,7 +309,7 @@ module _ (𝒯 : Tables) where
         let S = walks-span 𝒯 (wordIn b) c o in
         let i = W .is in
         let h = rw (S .is) at i in
-        rw (o, kinded 7 (wordIn b)) cc
+        rw (o, kinded 7 (wordIn b) (omega arith)) cc
 
     move-run : (b c t : ℕ) (d e : Dep) → c < 2 ^ 16 → Moves 𝒯 (typed (st .values) (valueIn st b)) c t d e
         → NoWalk 𝒯 (typed (st .values) (valueIn st b)) c → movedType b c ≡ span 0 t d e
@@ -304,7 +319,7 @@ module _ (𝒯 : Tables) where
         let S = moves-span 𝒯 (wordIn b) c q in
         let i = M .is in
         let h = rw (S .is) at i in
-        rw (not-walks b c N, q, kinded 6 (wordIn b)) cc
+        rw (not-walks b c N, q, kinded 6 (wordIn b) (omega arith)) cc
 
     move-any : (b c : ℕ) → c < 2 ^ 16 → NoMove 𝒯 (typed (st .values) (valueIn st b)) c
         → NoWalk 𝒯 (typed (st .values) (valueIn st b)) c → movedType b c ≡ any
@@ -338,7 +353,7 @@ module _ (𝒯 : Tables) where
         let (f, e) = sees-one (looked-sees b t (touched b c t A)) S in
         record {
           reading = _;
-          passes = rule-access place st (suc j) b c t _ T A;
+          passes = rule-access place toLoad st (suc j) b c t _ T A;
           holds-after = λ i. holding (e i) a (getD (f i) c 0);
         }
     reads-plain (store a b c) F s' (closes {t = t} {fields = fields} {s' = s₁} A S C) =
@@ -347,7 +362,7 @@ module _ (𝒯 : Tables) where
         let q : rowCloses a b c t ≡ true = rule-row (looked b t .values) (looked-chained b t) (𝒯 .size t) (𝒯 .words t) _ R in
         record {
           reading = _;
-          passes = rule-access place st (suc j) b c t _ T A;
+          passes = rule-access place toStore st (suc j) b c t _ T A;
           holds-after = closed-in a b c t q ∙ ap (λ (s : BlockState). closing s) e;
         }
     reads-plain (store a b c) F s' (opens {t = t} {fields = fields} {s' = s₁} A S N) =
@@ -357,70 +372,90 @@ module _ (𝒯 : Tables) where
         (λ q. absurd (N (subst (ClosesWith a c t) (λ i. (f i, e i)) (row-rule (looked b t .values) (𝒯 .size t) (𝒯 .words t) _ q))))
         (λ q. record {
           reading = _;
-          passes = rule-access place st (suc j) b c t _ T A;
+          passes = rule-access place toStore st (suc j) b c t _ T A;
           holds-after = opened-in a b c t touch q ∙ (λ i. opening (e i) (valueIn st b) (set (f i) c (valueIn st a)));
         })
 
     -- ---- refusals, both ways
 
     -- the access through register b at offset c has its first no to a question, of which r is the refusal
-    record RefusedAt (b c : ℕ) (r : Refusal) : Type 0 where
+    record RefusedAt (x : Access) (b c : ℕ) (r : Refusal) : Type 0 where
       question : Question
       is : r ≡ place question
-      no : AccessNo 𝒯 (stateOf st) (valueIn st b) c question
+      no : AccessNo 𝒯 (stateOf st) (valueIn st b) c x question
 
     no-fit : (v : ℕ) → referenceOf 𝒯 (st .values) (typed (st .values) v) ≡ Nothing → (t : ℕ) → Fits 𝒯 (knownOf (st .values)) v (ref t) → ⊥
     no-fit v e t F = not-to (sym e ∙ reference-decides 𝒯 (st .values) (suc j) (T .values) v t .1 F)
 
-    -- Q11 and Q12 of an access to a record of type t, and Q12 alone
+    -- Q11, Q23 and Q12 of an access to a record of type t, the last two, and Q12 alone
     abbrev asksTouch : ℕ → Outcome Reading → Outcome Reading
     asksTouch b next = ask (mayTouch 𝒯 st (valueIn st b)) (place q12) (λ _. next)
 
-    abbrev asksBelow : ℕ → ℕ → (ℕ → Outcome Reading) → ℕ → Outcome Reading
-    asksBelow b c k t = ask (ltb c (𝒯 .size t)) (place q11) (λ _. asksTouch b (k t))
+    abbrev asksLock : Access → ℕ → ℕ → (ℕ → Outcome Reading) → ℕ → Outcome Reading
+    asksLock x b c k t = ask (permits 𝒯 x t c) (place q23) (λ _. asksTouch b (k t))
 
-    access-refused : (b c : ℕ) (k : ℕ → Reading) (r : Refusal) → onRecord 𝒯 place st b c (λ t. ok (k t)) ≡ refused r → RefusedAt b c r
+    abbrev asksBelow : Access → ℕ → ℕ → (ℕ → Outcome Reading) → ℕ → Outcome Reading
+    asksBelow x b c k t = ask (ltb c (𝒯 .size t)) (place q11) (λ _. asksLock x b c k t)
+
+    -- only a store has a no to Q23
+    is-locked : (x : Access) (b c t : ℕ) → Fits 𝒯 (knownOf (st .values)) (valueIn st b) (ref t) → c < 𝒯 .size t → permits 𝒯 x t c ≡ false
+        → AccessNo 𝒯 (stateOf st) (valueIn st b) c x q23
+    is-locked toLoad b c t F h p = absurd (false≢true (sym p))
+    is-locked toStore b c t F h p = locked-field F h (not-false _ p)
+
+    access-refused : (x : Access) (b c : ℕ) (k : ℕ → Reading) (r : Refusal) → onRecord 𝒯 place x st b c (λ t. ok (k t)) ≡ refused r → RefusedAt x b c r
     unfolding onRecord withReference provided
-    access-refused b c k r q = go (referenceIn 𝒯 st b) refl q
+    access-refused x b c k r q = go (referenceIn 𝒯 st b) refl q
       where
-        touching : (t : ℕ) → referenceIn 𝒯 st b ≡ To t → c < 𝒯 .size t → asksTouch b (ok (k t)) ≡ refused r → RefusedAt b c r
-        touching t e h q =
+        touching : (t : ℕ) → referenceIn 𝒯 st b ≡ To t → c < 𝒯 .size t → permits 𝒯 x t c ≡ true → asksTouch b (ok (k t)) ≡ refused r → RefusedAt x b c r
+        touching t e h u q =
             byTest (mayTouch 𝒯 st (valueIn st b)) (λ p. absurd (not-ok (sym (rw p at q))))
             (λ p. record {
               question = q12;
               is = sym (refused-same {A = Reading} (rw p at q));
-              no = another-open (reference-fits 𝒯 (st .values) (valueIn st b) t e) h
+              no = another-open (reference-fits 𝒯 (st .values) (valueIn st b) t e) h (permits-rule x t c u)
                   (λ n. false≢true (sym p ∙ may-touch 𝒯 st (valueIn st b) (rule-touch st (valueIn st b) (inl n))))
                   (λ n. false≢true (sym p ∙ may-touch 𝒯 st (valueIn st b) (rule-touch st (valueIn st b) (inr n))));
             })
 
+        permitting : (t : ℕ) → referenceIn 𝒯 st b ≡ To t → c < 𝒯 .size t → asksLock x b c (λ t. ok (k t)) t ≡ refused r → RefusedAt x b c r
+        permitting t e h q =
+            byTest (permits 𝒯 x t c) (λ p. touching t e h p (rw p at q))
+            (λ p. record {
+              question = q23;
+              is = sym (refused-same {A = Reading} (rw p at q));
+              no = is-locked x b c t (reference-fits 𝒯 (st .values) (valueIn st b) t e) h p;
+            })
+
         go : (o : Reference) → referenceIn 𝒯 st b ≡ o
-            → withReference o (place q10) (asksBelow b c (λ t. ok (k t))) ≡ refused r → RefusedAt b c r
+            → withReference o (place q10) (asksBelow x b c (λ t. ok (k t))) ≡ refused r → RefusedAt x b c r
         go Nothing e q = record { question = q10; is = sym (refused-same {A = Reading} q); no = no-reference (no-fit (valueIn st b) e) }
         go (To t) e q =
-            byTest (ltb c (𝒯 .size t)) (λ p. touching t e (ltb-true _ _ p) (rw p at q))
+            byTest (ltb c (𝒯 .size t)) (λ p. permitting t e (ltb-true _ _ p) (rw p at q))
             (λ p. record {
               question = q11;
               is = sym (refused-same {A = Reading} (rw p at q));
               no = past-the-size (reference-fits 𝒯 (st .values) (valueIn st b) t e) (ltb-false _ _ p);
             })
 
-    refused-access : (b c : ℕ) (k : ℕ → Outcome Reading) (q : Question) → AccessNo 𝒯 (stateOf st) (valueIn st b) c q
-        → onRecord 𝒯 place st b c k ≡ refused (place q)
+    refused-access : (x : Access) (b c : ℕ) (k : ℕ → Outcome Reading) (q : Question) → AccessNo 𝒯 (stateOf st) (valueIn st b) c x q
+        → onRecord 𝒯 place x st b c k ≡ refused (place q)
     unfolding onRecord withReference provided
-    refused-access b c k q (no-reference N) = go (referenceIn 𝒯 st b) refl
+    refused-access x b c k q (no-reference N) = go (referenceIn 𝒯 st b) refl
       where
         go : (o : Reference) → referenceIn 𝒯 st b ≡ o
-            → withReference o (place q10) (asksBelow b c k) ≡ refused (place q10)
+            → withReference o (place q10) (asksBelow x b c k) ≡ refused (place q10)
         go Nothing e = refl
         go (To t) e = absurd (N t (reference-fits 𝒯 (st .values) (valueIn st b) t e))
-    refused-access b c k q (past-the-size {t = t} F h) =
+    refused-access x b c k q (past-the-size {t = t} F h) =
         rw (reference-decides 𝒯 (st .values) (suc j) (T .values) (valueIn st b) t .1 F, le-ltb c (𝒯 .size t) h) refl
-    refused-access b c k q (another-open {t = t} F h m n) =
+    refused-access x b c k q (locked-field {t = t} F h u) =
+        rw (reference-decides 𝒯 (st .values) (suc j) (T .values) (valueIn st b) t .1 F, lt-ltb c (𝒯 .size t) h, u) refl
+    refused-access x b c k q (another-open {t = t} F h u m n) =
         byTest (mayTouch 𝒯 st (valueIn st b))
         (λ p. absurd (either (or-true _ _ p) (λ z. m (rw (not-true (isOpen st) z) refl))
         (λ z. either (touch-rule st (valueIn st b) (inr (eqb-true _ _ z))) m n)))
-        (λ p. rw (reference-decides 𝒯 (st .values) (suc j) (T .values) (valueIn st b) t .1 F, lt-ltb c (𝒯 .size t) h, p) refl)
+        (λ p. rw (reference-decides 𝒯 (st .values) (suc j) (T .values) (valueIn st b) t .1 F, lt-ltb c (𝒯 .size t) h, rule-permits x t c u, p) refl)
 
     pub record RefusedPlain (x : Plain) (r : Refusal) : Type 0 where
       pub question : Question
@@ -436,10 +471,10 @@ module _ (𝒯 : Tables) where
     plain-refused (multiply a b c) r q = absurd (not-ok (sym q))
     plain-refused (divide a b c) r q = absurd (not-ok (sym q))
     plain-refused (move a b c) r q = absurd (not-ok (sym q))
-    plain-refused (load a b c) r q = let R = access-refused b c _ r q in record { question = R .question; is = R .is; no = load-no (R .no) }
-    plain-refused (store a b c) r q = let R = access-refused b c _ r q in record { question = R .question; is = R .is; no = store-no (R .no) }
+    plain-refused (load a b c) r q = let R = access-refused toLoad b c _ r q in record { question = R .question; is = R .is; no = load-no (R .no) }
+    plain-refused (store a b c) r q = let R = access-refused toStore b c _ r q in record { question = R .question; is = R .is; no = store-no (R .no) }
 
     pub refused-plain : (x : Plain) (q : Question) → PlainNo 𝒯 (stateOf st) x q → readPlain 𝒯 place (suc j) x st ≡ refused (place q)
     unfolding readPlain
-    refused-plain (load a b c) q (load-no N) = refused-access b c _ q N
-    refused-plain (store a b c) q (store-no N) = refused-access b c _ q N
+    refused-plain (load a b c) q (load-no N) = refused-access toLoad b c _ q N
+    refused-plain (store a b c) q (store-no N) = refused-access toStore b c _ q N

@@ -74,9 +74,9 @@ unfolding typed
 learned-chained vs v c Z = record { joins = Z .joins; near = Z .near }
 
 -- another kind than that of Same makes no Same
-rekinded-chained : (vs : Values) (v k : ℕ) → (k ≡ 5 → ⊥) → Chained vs → Chained (rekinded vs v k)
+rekinded-chained : (vs : Values) (v k : ℕ) → k ≤ 8 → (k ≡ 5 → ⊥) → Chained vs → Chained (rekinded vs v k)
 unfolding typed
-rekinded-chained vs v k other Z =
+rekinded-chained vs v k small other Z =
     record {
       joins = Z .joins;
       near = λ u w q.
@@ -90,8 +90,8 @@ module _ (vs : Values) (Z : Chained vs) where
   unfolding notZero
   not-zero-chained v any = Z
   not-zero-chained v (ref t) = Z
-  not-zero-chained v (maybe t) = rekinded-chained vs v 1 (λ e. omega arith) Z
-  not-zero-chained v (tagged d) = rekinded-chained vs v 4 (λ e. omega arith) Z
+  not-zero-chained v (maybe t) = rekinded-chained vs v 1 (omega arith) (λ e. omega arith) Z
+  not-zero-chained v (tagged d) = rekinded-chained vs v 4 (omega arith) (λ e. omega arith) Z
   not-zero-chained v (present d) = Z
   not-zero-chained v (same d) = Z
   not-zero-chained v (span k t d e) = Z
@@ -105,7 +105,7 @@ module _ (vs : Values) (Z : Chained vs) where
   below-chained v w (present d) = Z
   below-chained v w (same d) = Z
   below-chained v w (span k t d e) =
-      pick-both Chained (eqb k 1 and knownEqual vs (name w) e) _ vs (λ q. rekinded-chained vs v 8 (λ e. omega arith) Z) (λ q. Z)
+      pick-both Chained (eqb k 1 and knownEqual vs (name w) e) _ vs (λ q. rekinded-chained vs v 8 (omega arith) (λ e. omega arith) Z) (λ q. Z)
 
   not-below-chained : (v w : ℕ) (ty : Ty) → Chained (notBelow vs v w ty)
   unfolding notBelow
@@ -116,7 +116,7 @@ module _ (vs : Values) (Z : Chained vs) where
   not-below-chained v w (present d) = Z
   not-below-chained v w (same d) = Z
   not-below-chained v w (span k t d e) =
-      pick-both Chained (eqb k 0 and knownEqual vs (name w) d) _ vs (λ q. rekinded-chained vs v 7 (λ e. omega arith) Z) (λ q. Z)
+      pick-both Chained (eqb k 0 and knownEqual vs (name w) d) _ vs (λ q. rekinded-chained vs v 7 (omega arith) (λ e. omega arith) Z) (λ q. Z)
 
 pub taken-chained : (e : End) (st : Reading) → Chained (st .values) → Chained (taken e st)
 unfolding taken
@@ -162,15 +162,16 @@ module _ (𝒯 : Tables) (vs : Values) (Z : Chained vs) (v : ℕ) (there : v < l
       (λ d. rw (getD-set-other (vs .words) v x (withKind (suc k) word) 0 d) refl)
 
   -- v has another kind, which makes its type ty
-  rekinded-known : (k : ℕ) (ty : Ty) → (word ≡ 0 → ⊥) → ofWord frame word (suc k) ≡ ty → knownOf (rekinded vs v (suc k)) ≡ becoming 𝒯 (knownOf vs) v ty
+  rekinded-known : (k : ℕ) (ty : Ty) → k < 8 → (word ≡ 0 → ⊥) → ofWord frame word (suc k) ≡ ty
+      → knownOf (rekinded vs v (suc k)) ≡ becoming 𝒯 (knownOf vs) v ty
   unfolding typed
-  rekinded-known k ty n e =
+  rekinded-known k ty small n e =
       λ i. record { type = fun-ext each i; constant = fun-ext (λ x. ap optionOf (own-kept k n x)) i; tested = knownOf vs .tested }
     where
       each : (x : ℕ) → typed (rekinded vs v (suc k)) x ≡ pick (eqb x v) ty (typed vs x)
       each x =
           byEqual x v
-          (λ q. rw (q, eq-eqb v v refl, getD-set-same (vs .words) v (withKind (suc k) word) 0 there, kinded (suc k) word) e)
+          (λ q. rw (q, eq-eqb v v refl, getD-set-same (vs .words) v (withKind (suc k) word) 0 there, kinded (suc k) word (omega arith)) e)
           (λ d. rw (ne-eqb x v d, getD-set-other (vs .words) v x (withKind (suc k) word) 0 d) refl)
 
   typed-of : typed vs v ≡ ofWord frame word (kindOf word)
@@ -178,17 +179,18 @@ module _ (𝒯 : Tables) (vs : Values) (Z : Chained vs) (v : ℕ) (there : v < l
   typed-of = refl
 
   -- a value of another type than Any becomes one of type ty
-  become : (R : Ty → Ty → Type 0) (k : ℕ) (x ty : Ty) → typed vs v ≡ x → (kindNumber x ≡ 0 → ⊥) → ofWord frame word (suc k) ≡ ty → R (typed vs v) ty
-      → Becomes 𝒯 R (knownOf vs) v (knownOf (rekinded vs v (suc k)))
-  become R k x ty h n e r =
+  become : (R : Ty → Ty → Type 0) (k : ℕ) (x ty : Ty) → k < 8 → typed vs v ≡ x → (kindNumber x ≡ 0 → ⊥) → ofWord frame word (suc k) ≡ ty
+      → R (typed vs v) ty → Becomes 𝒯 R (knownOf vs) v (knownOf (rekinded vs v (suc k)))
+  become R k x ty small h n e r =
       let w : word ≡ 0 → ⊥ = λ z. n (ap kindNumber (sym h ∙ any-typed vs v z)) in
-      subst (λ (K : Known). Becomes 𝒯 R (knownOf vs) v K) (sym (rekinded-known k ty w e)) (becomes r)
+      subst (λ (K : Known). Becomes 𝒯 R (knownOf vs) v K) (sym (rekinded-known k ty small w e)) (becomes r)
 
   -- a span of another rank
-  pub span-known : (q r t : ℕ) (d e : Dep) → typed vs v ≡ span r t d e
+  pub span-known : (q r t : ℕ) (d e : Dep) → q ≤ 2 → typed vs v ≡ span r t d e
       → knownOf (rekinded vs v (suc (suc (suc (suc (suc (suc q))))))) ≡ becoming 𝒯 (knownOf vs) v (span q t d e)
-  span-known q r t d e h =
-      rekinded-known (suc (suc (suc (suc (suc q))))) (span q t d e) (λ z. clash (let k : any ≡ span r t d e = sym (any-typed vs v z) ∙ h in cc))
+  span-known q r t d e most h =
+      rekinded-known (suc (suc (suc (suc (suc q))))) (span q t d e) (omega arith)
+      (λ z. clash (let k : any ≡ span r t d e = sym (any-typed vs v z) ∙ h in cc))
       (span-kind frame word (kindOf word) r t q d e (sym typed-of ∙ h))
 
   -- ---- each test
@@ -205,9 +207,10 @@ module _ (𝒯 : Tables) (vs : Values) (Z : Chained vs) (v : ℕ) (there : v < l
   not-zero-tells any h = stays-zero any h (λ z. omega arith) (λ z. omega arith)
   not-zero-tells (ref t) h = stays-zero (ref t) h (λ z. omega arith) (λ z. omega arith)
   not-zero-tells (maybe t) h =
-      become (NotZero 𝒯) 0 (maybe t) (ref t) h (λ z. omega arith) (maybe-kind frame word (kindOf word) t (sym typed-of ∙ h)) (maybe-to-ref h)
+      become (NotZero 𝒯) 0 (maybe t) (ref t) (omega arith) h (λ z. omega arith) (maybe-kind frame word (kindOf word) t (sym typed-of ∙ h)) (maybe-to-ref h)
   not-zero-tells (tagged d) h =
-      become (NotZero 𝒯) 3 (tagged d) (present d) h (λ z. omega arith) (tagged-kind frame word (kindOf word) d (sym typed-of ∙ h)) (tagged-to-present h)
+      become (NotZero 𝒯) 3 (tagged d) (present d) (omega arith) h (λ z. omega arith) (tagged-kind frame word (kindOf word) d (sym typed-of ∙ h))
+      (tagged-to-present h)
   not-zero-tells (present d) h = stays-zero (present d) h (λ z. omega arith) (λ z. omega arith)
   not-zero-tells (same d) h = stays-zero (same d) h (λ z. omega arith) (λ z. omega arith)
   not-zero-tells (span k t d f) h = stays-zero (span k t d f) h (λ z. omega arith) (λ z. omega arith)
@@ -231,7 +234,8 @@ module _ (𝒯 : Tables) (vs : Values) (Z : Chained vs) (v : ℕ) (there : v < l
       (λ q. let (one, e) = and-true _ _ q in
       let is : typed vs v ≡ span 1 t d f = h ∙ ap (λ (x : ℕ). span x t d f) (eqb-true k 1 one) in
       let to = span-kind frame word (kindOf word) 1 t 2 d f (sym typed-of ∙ is) in
-      rw q (become (Below 𝒯 (knownOf vs) w) 7 (span 1 t d f) (span 2 t d f) is (λ z. omega arith) to (from-to-in is (equal-known 𝒯 vs (name w) f e))))
+      rw q (become (Below 𝒯 (knownOf vs) w) 7 (span 1 t d f) (span 2 t d f) (omega arith) is (λ z. omega arith) to
+      (from-to-in is (equal-known 𝒯 vs (name w) f e))))
       (λ q. rw q (stays (λ ty n. no q n)))
     where
       no : {ty : Ty} → eqb k 1 and knownEqual vs (name w) f ≡ false → Below 𝒯 (knownOf vs) w (typed vs v) ty → ⊥
@@ -259,7 +263,8 @@ module _ (𝒯 : Tables) (vs : Values) (Z : Chained vs) (v : ℕ) (there : v < l
       (λ q. let (none, e) = and-true _ _ q in
       let is : typed vs v ≡ span 0 t d f = h ∙ ap (λ (x : ℕ). span x t d f) (eqb-true k 0 none) in
       let to = span-kind frame word (kindOf word) 0 t 1 d f (sym typed-of ∙ is) in
-      rw q (become (NotBelow 𝒯 (knownOf vs) w) 6 (span 0 t d f) (span 1 t d f) is (λ z. omega arith) to (run-to-from is (equal-known 𝒯 vs (name w) d e))))
+      rw q (become (NotBelow 𝒯 (knownOf vs) w) 6 (span 0 t d f) (span 1 t d f) (omega arith) is (λ z. omega arith) to
+      (run-to-from is (equal-known 𝒯 vs (name w) d e))))
       (λ q. rw q (stays (λ ty n. no q n)))
     where
       no : {ty : Ty} → eqb k 0 and knownEqual vs (name w) d ≡ false → NotBelow 𝒯 (knownOf vs) w (typed vs v) ty → ⊥

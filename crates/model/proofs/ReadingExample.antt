@@ -9,11 +9,11 @@ use lib.ListN.{set}
 use Rattle.model.specs.Question.{ok, q10, refusal, refusing}
 use Rattle.model.specs.Types.{Dep, name, ref, tagged}
 use Rattle.model.specs.Table.{Tables, tablesOf, Code, codeOf, Routine, routineOf, tablesAsk}
-use Rattle.model.specs.Machine.{Plain, load, store}
+use Rattle.model.specs.Machine.{Plain, load, store, toLoad, toStore}
 use Rattle.model.specs.Rules.{Known, Fits, any-fits, ref-ref, ref-in, ref-present}
 use Rattle.model.specs.ReadingRules.{made, BlockState, holds, holding, onEntry, MayAccess, loading, newly, Reads, loads, in-block, enters}
 use Rattle.model.specs.ReadingRules.{reads-on, ObeysAt, no-reference, load-no, no-access, DisobeysAt, eightMade, closing, Closes, closes, again}
-use Rattle.model.specs.ReadingRules.{FirstDisobeys}
+use Rattle.model.specs.ReadingRules.{FirstDisobeys, loads-any, stores-unlocked}
 use Rattle.model.specs.Check.{check}
 use Rattle.model.specs.Exactness.{Accepts, tableRows, instructionNo}
 use Rattle.model.specs.Cases.{refWord, anyWord, loadWord, storeWord, haltWord, row, plotTypes, plotTags, storeBlock}
@@ -38,9 +38,9 @@ atFirst = onEntry (P .annotation 0)
 abbrev afterLoad : BlockState
 afterLoad = holding (loading 𝒯 0 1 2 atFirst) 2 (made 0 1)
 
-first-access : MayAccess 𝒯 atFirst 1 1 2
+first-access : MayAccess 𝒯 toLoad atFirst 1 1 2
 unfolding computed
-first-access = record { reference = ref-ref refl; below = omega arith; touch = inl refl }
+first-access = record { reference = ref-ref refl; below = omega arith; permitted = loads-any; touch = inl refl }
 
 first-load : Reads 𝒯 0 atFirst (load 2 1 1) afterLoad
 first-load = loads first-access (newly refl)
@@ -121,17 +121,17 @@ abbrev loadedTwice : BlockState
 loadedTwice = holding (loading 𝒯 2 1 0 closedAgain) 4 (made 2 0)
 
 -- r1 starts a record of two fields at each of the three, and none is open
-may-load : MayAccess 𝒯 before 1 0 0
+may-load : MayAccess 𝒯 toLoad before 1 0 0
 unfolding computed
-may-load = record { reference = ref-ref refl; below = omega arith; touch = inl refl }
+may-load = record { reference = ref-ref refl; below = omega arith; permitted = loads-any; touch = inl refl }
 
-may-store : MayAccess 𝒯 loadedOnce 1 1 0
+may-store : MayAccess 𝒯 toStore loadedOnce 1 1 0
 unfolding computed
-may-store = record { reference = ref-ref refl; below = omega arith; touch = inl refl }
+may-store = record { reference = ref-ref refl; below = omega arith; permitted = stores-unlocked refl; touch = inl refl }
 
-may-load-again : MayAccess 𝒯 closedAgain 1 0 0
+may-load-again : MayAccess 𝒯 toLoad closedAgain 1 0 0
 unfolding computed
-may-load-again = record { reference = ref-ref refl; below = omega arith; touch = inl refl }
+may-load-again = record { reference = ref-ref refl; below = omega arith; permitted = loads-any; touch = inl refl }
 
 loads-once : Reads 𝒯 0 before (load 2 1 0) loadedOnce
 loads-once = loads may-load (newly refl)

@@ -10,7 +10,7 @@ use borrow.Author.Tests.{eq-eqb, ne-eqb}
 use Rattle.model.specs.Question.{ok}
 use Rattle.model.specs.Types.{Ty}
 use Rattle.model.specs.Table.{Tables, tablesOf, Code, Routine, routineOf, tablesAsk}
-use Rattle.model.specs.Machine.{Plain, load, store, Instruction, plain, instructionAt}
+use Rattle.model.specs.Machine.{Plain, load, store, Instruction, plain, instructionAt, toStore}
 use Rattle.model.specs.Rules.{Known}
 use Rattle.model.specs.ReadingRules.{made, eightMade, BlockState, holds, knowing, seeing, MayAccess, Sees, newly, again, Closes, Reads, copies}
 use Rattle.model.specs.ReadingRules.{constants, adds, subtracts, multiplies, divides, moves-any, moves-from, moves-run, loads, opens, closes, Reaches}
@@ -51,7 +51,7 @@ module _ (𝒯 : Tables) where
 
   -- a store that closes
   pub data ClosesAt (j : ℕ) (s : BlockState) : Plain → Type 0 where
-    closes-at : {a b c t : ℕ} {fields : List ℕ} {s' : BlockState} → MayAccess 𝒯 s (holds s b) c t → Sees 𝒯 j (holds s b) t s fields s'
+    closes-at : {a b c t : ℕ} {fields : List ℕ} {s' : BlockState} → MayAccess 𝒯 toStore s (holds s b) c t → Sees 𝒯 j (holds s b) t s fields s'
         → Closes 𝒯 (s' .known) t (set fields c (holds s a)) → ClosesAt j s (store a b c)
 
   -- a store to field c through v

@@ -11,6 +11,7 @@ use Rattle.model.specs.Machine.{load, store, plain, instructionAt, State
 use Rattle.model.specs.Check.{blockAsk}
 use Rattle.model.proofs.Lawful.{Lawful, Tabled}
 use Rattle.model.proofs.TableLaws.{Sized, Annotated}
+use Rattle.model.proofs.Invariant.{Kept}
 use Rattle.model.proofs.EdgeSound.{Stands, MemoryFit}
 use Rattle.model.proofs.BlockSound.{At, at-entry, Stepped, inner, leaves, stops, step-sound, Field, load-field, store-field}
 use Rattle.model.proofs.MachineLaws.{goes-same, goes-halts, goes-faults, halts-faults, halt-stays}
@@ -61,6 +62,7 @@ module _ (𝒯 : Tables) (Is : Allocation) (memory₀ : List ℕ) (narrow : leng
         → Field 𝒯 Is memory₀ narrow law tab P A S accepted s b c
     pub stores : (s : State) → Passes P last s₀ s → (a b c : ℕ) → instructionAt P (s .block) (s .offset) ≡ plain (store a b c)
         → Field 𝒯 Is memory₀ narrow law tab P A S accepted s b c
+    pub kept : (s : State) → Passes P last s₀ s → Kept 𝒯 Is memory₀ (s .memory)
     pub blockEnds : (s : State) → Passes P last s₀ s → s .offset ≡ 0 → Stands 𝒯 Is P (s .block) (s .registers) × MemoryFit 𝒯 Is memory₀ (s .memory)
     pub atHalt : (s s' : State) → Passes P last s₀ s → step P s ≡ halts s' → MemoryFit 𝒯 Is memory₀ (s' .memory)
 
@@ -71,6 +73,7 @@ module _ (𝒯 : Tables) (Is : Allocation) (memory₀ : List ℕ) (narrow : leng
         faultless = λ s s' q p e. no-fault s s' q (at s p) e;
         loads = λ s p a b c e. load-field 𝒯 Is memory₀ narrow law tab P A S accepted s (at s p) a b c e;
         stores = λ s p a b c e. store-field 𝒯 Is memory₀ narrow law tab P A S accepted s (at s p) a b c e;
+        kept = λ s p. at s p .mirrors .kept;
         blockEnds = λ s p e. at s p .begins e;
         atHalt = λ s s' p e. halt-fits s s' (at s p) e;
       }

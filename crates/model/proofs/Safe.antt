@@ -84,7 +84,7 @@ module _ (types tags allocations memory : List ℕ) (n : ℕ) (tasks : ℕ → T
     mine : (i : ℕ) (g : Ready) → w .standing i ≡ waiting g → (i < n) × (length (g .registers) ≡ 8)
 
   memory-fit : (w : World) → WorldFit w → MemoryFit 𝒯 (Allocated allocations) memory (w .memory)
-  memory-fit w F = record { records = F .records; kept = record { long = F .long; outside = F .outside } }
+  memory-fit w F = record { records = F .records; kept = record { long = F .long; outside = F .outside; lockedKept = F .lockedKept } }
 
   -- what a routine goes on with meets its block's annotation
   abbrev Standable : ℕ → Ready → Type 0
@@ -105,6 +105,7 @@ module _ (types tags allocations memory : List ℕ) (n : ℕ) (tasks : ℕ → T
               (λ q. G .fit .registers j g (rw q at e));
           long = M .kept .long;
           outside = M .kept .outside;
+          lockedKept = M .kept .lockedKept;
         };
         mine = λ j g e. byTest (eqb j i)
             (λ q. let s = h g (rw q at e) in (rw (eqb-true j i q) (s .0), s .1 .eight))
@@ -177,6 +178,7 @@ module _ (types tags allocations memory : List ℕ) (n : ℕ) (tasks : ℕ → T
           ends = ended .ends;
           loads = λ s p a c d q. in-field s c d (safe .loads s p a c d q);
           stores = λ s p a c d q. in-field s c d (safe .stores s p a c d q);
+          lockedKept = λ s p. safe .kept s p .lockedKept;
           blockEnds = λ s p z. let (B, M) = safe .blockEnds s p z in waits-good w i (ready (s .block) (s .registers)) (s .memory) G mine M B .fit;
           atHalt = λ s s' p h. done-good w i (s' .memory) G (safe .atHalt s s' p h) .fit;
         }
@@ -234,6 +236,7 @@ module _ (types tags allocations memory : List ℕ) (n : ℕ) (tasks : ℕ → T
           registers = λ i g e. let s = at i g e .1 in (s .exists, s .meets);
           long = refl;
           outside = λ x o. refl;
+          lockedKept = λ x l. refl;
         };
         mine = λ i g e. let s = at i g e in (s .0, s .1 .eight);
       }

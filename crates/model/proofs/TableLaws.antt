@@ -75,7 +75,7 @@ annotated count C q =
     record {
       names =
           λ b i h l. well-below count 8 _
-          (every-true 8 0 _ (ask-ok _ _ _ (firstNo-ok _ 0 _ q b (omega arith) (omega arith)) .0) i (omega arith) (omega arith));
+          (and-true _ _ (every-true 8 0 _ (ask-ok _ _ _ (firstNo-ok _ 0 _ q b (omega arith) (omega arith)) .0) i (omega arith) (omega arith)) .1);
       eight = λ b. eight-words (C .blocks) b;
     }
 

@@ -1,7 +1,7 @@
 -- The questions of tables, Q1 to Q6, Q16 and Q17, have no no exactly when the rules of specs/Exactness.antt hold.
 use mathlib.Core.Path.{_≡_, refl, sym, ap, _∙_}
 use mathlib.Core.Logic.{_↔_}
-use mathlib.Core.Bool.{Bool, true}
+use mathlib.Core.Bool.{Bool, true, false}
 use mathlib.Core.List.{List}
 use Prim.Native.Nat.{ℕ, zero, suc, _+_, _≤_, _<_}
 use native.Mathlib.Omega.{arith}
@@ -10,11 +10,12 @@ use lib.Dec.{ltb, leb, eqb}
 use lib.ListN.{length, getD}
 use borrow.Author.Tests.{eqb-true, eq-eqb, ltb-true, lt-ltb, le-ltb, leb-true, le-leb}
 use Rattle.model.specs.Question.{_and_, pick, Refusal, Outcome, ok, asked, firstNo, AllPassed}
-use Rattle.model.specs.Table.{memoryMost, fieldsMost, typeWords, lengthMost, rows, headOf, wordsOf, tablesOf, Code, routineOf, startOf}
+use Rattle.model.specs.Word.{lockedOf}
+use Rattle.model.specs.Table.{memoryMost, fieldsMost, typeWords, lengthMost, registerCount, rows, headOf, wordsOf, tablesOf, Code, routineOf, startOf}
 use Rattle.model.specs.Table.{wholeRows, typeLengthsAsk, codeLengthsAsk, wellMade, countAsk, fieldWell, fieldsAsk, tagAsk, typesQuestions}
 use Rattle.model.specs.Table.{blocksAsk, lengthsAsk, annotationWell, annotationAsk, annotationsAsk, startAsk, memoryLengthAsk}
 use Rattle.model.specs.Exactness.{WholeRows, TypesPass, BlocksPass, AnnotationsPass}
-use Rattle.model.proofs.Logic.{byEqual, byLess, and-true, true-and, every-true, true-every, ask-ok, ok-ask, firstNo-ok, ok-firstNo}
+use Rattle.model.proofs.Logic.{byEqual, byLess, and-true, true-and, not-true, every-true, true-every, ask-ok, ok-ask, firstNo-ok, ok-firstNo}
 
 -- ---- one question, and one question of each row
 
@@ -180,11 +181,18 @@ module _ (C : Code) where
 
   -- ---- Q6 and Q16
 
+  annotation-exactly : (n w : ℕ) → (annotationWell n w ≡ true) ↔ ((lockedOf w ≡ false) × (wellMade n registerCount w ≡ true))
+  unfolding annotationWell
+  annotation-exactly n w = (λ e. let (m, h) = and-true _ _ e in (not-true _ m, h), λ (m, h). true-and _ _ (rw m refl) h)
+
   pub annotations-exactly : (n : ℕ) → (annotationsAsk n (C .blocks) ≡ ok tt) ↔ AnnotationsPass n C
-  unfolding annotationsAsk annotationAsk annotationWell
+  unfolding annotationsAsk annotationAsk
   annotations-exactly n = (
-    λ e b r h l. every-true 8 0 _ (ask-ok _ _ _ (each-exactly _ _ .0 e b h) .0) r (omega arith) (omega arith),
-    λ A. each-exactly _ _ .1 (λ b h. ok-ask _ _ _ (true-every 8 0 _ (λ r lo hi. A b r h (omega arith)))),
+    λ e. let each : (b r : ℕ) → b < count → r < registerCount → annotationWell n (getD (wordsOf (C .blocks) b) r 0) ≡ true =
+        λ b r h l. every-true 8 0 _ (ask-ok _ _ _ (each-exactly _ _ .0 e b h) .0) r (omega arith) (omega arith) in
+        record { words = λ b r h l. annotation-exactly n _ .0 (each b r h l) .1; unmarked = λ b r h l. annotation-exactly n _ .0 (each b r h l) .0 },
+    λ A. each-exactly _ _ .1 (λ b h. ok-ask _ _ _ (true-every 8 0 _
+        (λ r lo hi. annotation-exactly n _ .1 (A .unmarked b r h (omega arith), A .words b r h (omega arith))))),
   )
 
   pub start-exactly : (b : ℕ) → (startAsk (C .blocks) b ≡ ok tt) ↔ (b < routineOf C .count)

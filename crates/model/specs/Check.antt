@@ -1,5 +1,5 @@
--- The check of a routine: Q1 to Q6, then Q7 to Q15 instruction by instruction.
-use mathlib.Core.Bool.{Bool, not}
+-- The check of a routine: Q1 to Q6, then Q7 to Q15 and Q23 instruction by instruction.
+use mathlib.Core.Bool.{Bool, true, not}
 use mathlib.Core.List.{List}
 use Prim.Native.Nat.{ℕ, zero, suc, _+_}
 use lib.Dec.{ltb, eqb}
@@ -7,12 +7,12 @@ use lib.ListN.{getD}
 use Rattle.model.specs.declared.Verdict.{Verdict}
 use Rattle.model.specs.declared.Reference.{Reference}
 use Rattle.model.specs.declared.Reference.the-variants.{To, Nothing}
-use Rattle.model.specs.Question.{_or_, Question, q10, q11, q12, q13, q14, q15, Refusal, refusal}
+use Rattle.model.specs.Question.{_or_, Question, q10, q11, q12, q13, q14, q15, q23, Refusal, refusal}
 use Rattle.model.specs.Question.{Outcome, ok, refused, ask, asked, then, firstNo, verdictOf}
-use Rattle.model.specs.Table.{Tables, tablesOf, Code, Routine, routineOf, lastAt}
+use Rattle.model.specs.Table.{Tables, tablesOf, locked, Code, Routine, routineOf, lastAt}
 unfoldable pub use Rattle.model.specs.Table.{tableQuestions, tablesAsk}
 use Rattle.model.specs.Machine.{Plain, constant, copy, add, subtract, multiply, divide, move, load, store, End, halt, jump, ifEqual, ifLess}
-use Rattle.model.specs.Machine.{Instruction, instructionAt, formAsk}
+use Rattle.model.specs.Machine.{Instruction, instructionAt, formAsk, Access, toLoad, toStore}
 use Rattle.model.specs.Values.{Values, typed, birthplace}
 use Rattle.model.specs.Reading.{rowFits, referenceOf, Reading, entry, putRegister, fresh, movedWord, isOpen, look, loaded, stored, taken}
 use Rattle.model.specs.Reading.{untaken}
@@ -34,11 +34,17 @@ module _ (𝒯 : Tables) where
   abbrev pub mayTouch : Reading → ℕ → Bool
   mayTouch st v = not (isOpen st) or eqb (st .base) v
 
-  -- Q10, Q11, Q12 of an access through register b at offset c
-  unfoldable pub onRecord : {A : Type 0} → (Question → Refusal) → Reading → ℕ → ℕ → (ℕ → Outcome A) → Outcome A
-  onRecord place st b c k =
+  -- 02, card 1: 'some fields readable and never written'
+  abbrev pub permits : Access → ℕ → ℕ → Bool
+  permits toLoad t c = true
+  permits toStore t c = not (locked 𝒯 t c)
+
+  -- Q10, Q11, Q23, Q12 of an access through register b at offset c
+  unfoldable pub onRecord : {A : Type 0} → (Question → Refusal) → Access → Reading → ℕ → ℕ → (ℕ → Outcome A) → Outcome A
+  onRecord place x st b c k =
       withReference (referenceIn st b) (place q10) λ t.
       ask (ltb c (𝒯 .size t)) (place q11) λ _.
+      ask (permits x t c) (place q23) λ _.
       ask (mayTouch st (valueIn st b)) (place q12) λ _.
       k t
 
@@ -53,8 +59,9 @@ module _ (𝒯 : Tables) where
   readPlain place g (move a b c) st =
       let v = valueIn st b in
       ok (fresh st g a (movedWord 𝒯 (getD (st .values .words) v 0) c) (getD (st .values .frames) (birthplace v) 0) 0)
-  readPlain place g (load a b c) st = onRecord place st b c λ t. ok (loaded (look 𝒯 st g (valueIn st b) t) a c)
-  readPlain place g (store a b c) st = onRecord place st b c λ t. ok (stored 𝒯 (look 𝒯 st g (valueIn st b) t) g (valueIn st b) t c (valueIn st a))
+  readPlain place g (load a b c) st = onRecord place toLoad st b c λ t. ok (loaded (look 𝒯 st g (valueIn st b) t) a c)
+  readPlain place g (store a b c) st =
+      onRecord place toStore st b c λ t. ok (stored 𝒯 (look 𝒯 st g (valueIn st b) t) g (valueIn st b) t c (valueIn st a))
 
 module _ (𝒯 : Tables) (P : Routine) where
   -- the edge to block b meets its annotation
@@ -83,7 +90,7 @@ module _ (𝒯 : Tables) (P : Routine) where
       then (readEdges place (suc b) e st) λ _.
       ok st
 
-  -- Q7 to Q15 of an instruction of block b, its last or not, whose values are born at g, and the reading after it
+  -- Q7 to Q15 and Q23 of an instruction of block b, its last or not, whose values are born at g, and the reading after it
   unfoldable pub readInstruction : (Question → Refusal) → ℕ → ℕ → Bool → Instruction → Reading → Outcome Reading
   readInstruction place b g last x st =
       formAsk (λ q. refused (place q)) (P .count) b last

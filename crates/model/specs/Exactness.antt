@@ -1,12 +1,13 @@
 -- Demand 2. Nothing here but the statement; Demand2 is proved in proofs/Exact.antt.
 use mathlib.Core.Path.{_≡_}
 use mathlib.Core.Logic.{_↔_, _⊎_}
-use mathlib.Core.Bool.{true}
+use mathlib.Core.Bool.{true, false}
 use mathlib.Core.List.{List, [], _∷_, _++_}
 use Prim.Native.Nat.{ℕ, _+_, _*_, _%_, _≤_, _<_}
 use lib.ListN.{length, getD}
 use Rattle.model.specs.declared.RunAnswer.{RunAnswer}
 use Rattle.model.specs.Question.{q20, q21, Refusal, refusal, refusing, Outcome, ok, refused, then, AllPassed, FirstRefused}
+use Rattle.model.specs.Word.{lockedOf}
 use Rattle.model.specs.Types.{typeOf}
 use Rattle.model.specs.Table.{typesMost, tagsMost, blocksMost, codeMost, memoryMost, fieldsMost, typeWords, lengthMost, registerCount, rows}
 use Rattle.model.specs.Table.{headOf, wordsOf, Tables, tablesOf, fieldOf, Code, Routine, routineOf, startOf, wellMade, typeLengthsAsk}
@@ -41,10 +42,10 @@ pub record BlocksPass (C : Code) : Type 0 where
   pub lengths : (b : ℕ) → b < rows (C .blocks) → (1 ≤ headOf (C .blocks) b) × (headOf (C .blocks) b ≤ lengthMost)
   pub sum : startOf (C .blocks) (rows (C .blocks)) ≡ length (C .code)
 
--- Q6 has no no
-abbrev pub AnnotationsPass : ℕ → Code → Type 0
-AnnotationsPass count C =
-    (b r : ℕ) → b < rows (C .blocks) → r < registerCount → wellMade count registerCount (getD (wordsOf (C .blocks) b) r 0) ≡ true
+-- Q6 has no no. 02, card 1: 'Q3 allows the mark, Q6 does not'
+pub record AnnotationsPass (count : ℕ) (C : Code) : Type 0 where
+  pub words : (b r : ℕ) → b < rows (C .blocks) → r < registerCount → wellMade count registerCount (getD (wordsOf (C .blocks) b) r 0) ≡ true
+  pub unmarked : (b r : ℕ) → b < rows (C .blocks) → r < registerCount → lockedOf (getD (wordsOf (C .blocks) b) r 0) ≡ false
 
 -- ---- the check
 

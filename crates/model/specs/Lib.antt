@@ -21,3 +21,4 @@ pub mod Safety
 pub mod Cases
 pub mod Misreadings
 pub mod Chains
+pub mod Locks

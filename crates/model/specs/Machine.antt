@@ -23,6 +23,11 @@ pub data Plain : Type 0 where
   load : ℕ → ℕ → ℕ → Plain
   store : ℕ → ℕ → ℕ → Plain
 
+-- what an access to a field is for
+pub data Access : Type 0 where
+  toLoad : Access
+  toStore : Access
+
 -- 01: 'Opcodes 0, 10, 11, 12 end a block'
 pub data End : Type 0 where
   halt : End

@@ -27,7 +27,7 @@ unfoldable pub every : ℕ → ℕ → (ℕ → Bool) → Bool
 every zero i f = true
 every (suc n) i f = f i and every n (suc i) f
 
--- ---- 01: 'The questions, in order'. 22 was the number of one that document 02, card 6, took out, and is given to no other.
+-- ---- 01: 'The questions, in order', and those of document 02. 22 was the number of one that its card 6 took out, and is given to no other.
 
 pub data Question : Type 0 where
   q1 : Question  -- are lengths whole rows within bounds?
@@ -51,6 +51,7 @@ pub data Question : Type 0 where
   q19 : Question  -- are allocations in order and inside memory?
   q20 : Question  -- does every field's word meet its meaning?
   q21 : Question  -- does each register meet that block's annotation?
+  q23 : Question  -- is the field of a store not locked? 02, card 1: 'asked after Q11 and before Q12'
 
 abbrev pub numberOf : Question → ℕ
 numberOf q1 = 1
@@ -74,9 +75,11 @@ numberOf q18 = 18
 numberOf q19 = 19
 numberOf q20 = 20
 numberOf q21 = 21
+numberOf q23 = 23
 
 abbrev pub questions : List Question
-questions = q1 ∷ q2 ∷ q3 ∷ q4 ∷ q5 ∷ q6 ∷ q7 ∷ q8 ∷ q9 ∷ q10 ∷ q11 ∷ q12 ∷ q13 ∷ q14 ∷ q15 ∷ q16 ∷ q17 ∷ q18 ∷ q19 ∷ q20 ∷ q21 ∷ []
+questions =
+    q1 ∷ q2 ∷ q3 ∷ q4 ∷ q5 ∷ q6 ∷ q7 ∷ q8 ∷ q9 ∷ q10 ∷ q11 ∷ q12 ∷ q13 ∷ q14 ∷ q15 ∷ q16 ∷ q17 ∷ q18 ∷ q19 ∷ q20 ∷ q21 ∷ q23 ∷ []
 
 -- the first of some questions that has a number, q1 where none has
 abbrev pub withNumber : ℕ → List Question → Question

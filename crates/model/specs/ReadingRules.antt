@@ -1,4 +1,4 @@
--- 'How a block is read' of 01, with cards 2 and 13 of 02, by rules: values, what is known of them, the registers, the fields seen, the open record.
+-- 'How a block is read' of 01, with cards 1, 2 and 13 of 02, by rules: values, what is known of them, the registers, the fields seen, the open record.
 -- One rule for each sentence, in 01's order. Nothing of how the reading is represented: the tests of Check decide these rules.
 use mathlib.Core.Path.{_≡_}
 use mathlib.Core.Logic.{_⊎_}
@@ -9,12 +9,12 @@ use Prim.Native.Nat.{ℕ, zero, suc, _+_, _*_, _/_, _%_, _≤_, _<_}
 use lib.Dec.{eqb}
 use lib.ListN.{getD, set}
 use lib.IntN.{ℤ, pos, negsuc}
-use Rattle.model.specs.Question.{pick, Question, q7, q8, q9, q10, q11, q12, q13, q14, q15, Refusal, refusal}
+use Rattle.model.specs.Question.{pick, Question, q7, q8, q9, q10, q11, q12, q13, q14, q15, q23, Refusal, refusal}
 use Rattle.model.specs.Word.{signed}
 use Rattle.model.specs.Types.{Dep, name, Ty, any, ref, maybe, tagged, present, span, typeOf, rename}
-use Rattle.model.specs.Table.{Tables, fieldOf, Routine}
+use Rattle.model.specs.Table.{Tables, fieldOf, locked, Routine}
 use Rattle.model.specs.Machine.{Plain, constant, copy, add, subtract, multiply, divide, move, load, store, End, halt, jump, ifEqual, ifLess}
-use Rattle.model.specs.Machine.{Instruction, plain, end, malformed, instructionAt, targetsExist}
+use Rattle.model.specs.Machine.{Instruction, plain, end, malformed, instructionAt, targetsExist, Access, toLoad, toStore}
 use Rattle.model.specs.Rules.{Known, Equal, Fits}
 
 -- ---- values
@@ -129,11 +129,17 @@ module _ (𝒯 : Tables) where
   abbrev pub NoWalk : Ty → ℕ → Type 0
   NoWalk ty c = (t : ℕ) (d e : Dep) → Walks ty c t d e → ⊥
 
-  -- Q10, Q11 and Q12. 01: 'A base holds a reference if it fits some Ref T'; 'c below the size'; 'No record open, or base the very value
-  -- that opened it', of a load or store at offset c of the record of type t behind v
-  pub record MayAccess (s : BlockState) (v c t : ℕ) : Type 0 where
+  -- 02, card 1: 'some fields readable and never written', of an access to field c of a record of type t
+  pub data Permits (t c : ℕ) : Access → Type 0 where
+    loads-any : Permits t c toLoad
+    stores-unlocked : locked 𝒯 t c ≡ false → Permits t c toStore
+
+  -- Q10, Q11, Q23 and Q12. 01: 'A base holds a reference if it fits some Ref T'; 'c below the size'; 'No record open, or base the very value
+  -- that opened it', of an access at offset c of the record of type t behind v
+  pub record MayAccess (x : Access) (s : BlockState) (v c t : ℕ) : Type 0 where
     pub reference : Fits 𝒯 (s .known) v (ref t)
     pub below : c < 𝒯 .size t
+    pub permitted : Permits t c x
     pub touch : (s .through ≡ none) ⊎ (s .through ≡ some v)
 
   -- the fields of the record of type t behind v are then the values made at j, each typed with the others
@@ -178,14 +184,14 @@ module _ (𝒯 : Tables) where
     moves-run : {a b c t : ℕ} {d e : Dep} → Moves (s .known .type (holds s b)) c t d e → NoWalk (s .known .type (holds s b)) c
         → Reads j s (move a b c) (giving j s a (span 0 t d e) none)
     -- 01: 'A load gives the field's value'
-    loads : {a b c t : ℕ} {fields : List ℕ} {s' : BlockState} → MayAccess s (holds s b) c t → Sees j (holds s b) t s fields s'
+    loads : {a b c t : ℕ} {fields : List ℕ} {s' : BlockState} → MayAccess toLoad s (holds s b) c t → Sees j (holds s b) t s fields s'
         → Reads j s (load a b c) (holding s' a (getD fields c 0))
     -- 01: 'A store opens the record of its base'
-    opens : {a b c t : ℕ} {fields : List ℕ} {s' : BlockState} → MayAccess s (holds s b) c t → Sees j (holds s b) t s fields s'
+    opens : {a b c t : ℕ} {fields : List ℕ} {s' : BlockState} → MayAccess toStore s (holds s b) c t → Sees j (holds s b) t s fields s'
         → (Closes (s' .known) t (set fields c (holds s a)) → ⊥)
         → Reads j s (store a b c) (opening s' (holds s b) (set fields c (holds s a)))
     -- 01: 'after each store the record closes if each field, stored or old, fits its type'
-    closes : {a b c t : ℕ} {fields : List ℕ} {s' : BlockState} → MayAccess s (holds s b) c t → Sees j (holds s b) t s fields s'
+    closes : {a b c t : ℕ} {fields : List ℕ} {s' : BlockState} → MayAccess toStore s (holds s b) c t → Sees j (holds s b) t s fields s'
         → Closes (s' .known) t (set fields c (holds s a))
         → Reads j s (store a b c) (closing s')
 
@@ -245,7 +251,7 @@ module _ (𝒯 : Tables) (P : Routine) where
     less-meets : {x y t : ℕ} {K L : Known} → Taken 𝒯 s (ifLess x y t) K → EdgeMeets s K t
         → Untaken 𝒯 s (ifLess x y t) L → EdgeMeets s L b → EdgesMeet b s (ifLess x y t)
 
-  -- Q7 to Q15: the instruction at offset j of block b, before which s holds, obeys the rules
+  -- Q7 to Q15 and Q23: the instruction at offset j of block b, before which s holds, obeys the rules
   pub data Obeys (b j : ℕ) (s : BlockState) : Instruction → Type 0 where
     in-block : {x : Plain} {s' : BlockState} → (suc j ≡ P .long b → ⊥) → Reads 𝒯 j s x s' → Obeys b j s (plain x)
     ends-block : {e : End} → suc j ≡ P .long b → targetsExist (P .count) b e ≡ true → s .through ≡ none → EdgesMeet (suc b) s e
@@ -273,17 +279,19 @@ module _ (𝒯 : Tables) (P : Routine) where
 -- ---- the questions, the first of them with a no
 
 module _ (𝒯 : Tables) where
-  -- the first of Q10 to Q12 that an access has a no to
-  pub data AccessNo (s : BlockState) (v c : ℕ) : Question → Type 0 where
-    no-reference : ((t : ℕ) → Fits 𝒯 (s .known) v (ref t) → ⊥) → AccessNo s v c q10
-    past-the-size : {t : ℕ} → Fits 𝒯 (s .known) v (ref t) → 𝒯 .size t ≤ c → AccessNo s v c q11
-    another-open : {t : ℕ} → Fits 𝒯 (s .known) v (ref t) → c < 𝒯 .size t → (s .through ≡ none → ⊥) → (s .through ≡ some v → ⊥)
-        → AccessNo s v c q12
+  -- the first of Q10, Q11, Q23 and Q12 that an access has a no to
+  pub data AccessNo (s : BlockState) (v c : ℕ) : Access → Question → Type 0 where
+    no-reference : {x : Access} → ((t : ℕ) → Fits 𝒯 (s .known) v (ref t) → ⊥) → AccessNo s v c x q10
+    past-the-size : {x : Access} {t : ℕ} → Fits 𝒯 (s .known) v (ref t) → 𝒯 .size t ≤ c → AccessNo s v c x q11
+    -- 02, card 1: '23, a store to a locked field, asked after Q11 and before Q12'
+    locked-field : {t : ℕ} → Fits 𝒯 (s .known) v (ref t) → c < 𝒯 .size t → locked 𝒯 t c ≡ true → AccessNo s v c toStore q23
+    another-open : {x : Access} {t : ℕ} → Fits 𝒯 (s .known) v (ref t) → c < 𝒯 .size t → Permits 𝒯 t c x
+        → (s .through ≡ none → ⊥) → (s .through ≡ some v → ⊥) → AccessNo s v c x q12
 
   -- the question that an instruction which ends no block has its first no to: only loads and stores are asked any
   pub data PlainNo (s : BlockState) : Plain → Question → Type 0 where
-    load-no : {a b c : ℕ} {q : Question} → AccessNo s (holds s b) c q → PlainNo s (load a b c) q
-    store-no : {a b c : ℕ} {q : Question} → AccessNo s (holds s b) c q → PlainNo s (store a b c) q
+    load-no : {a b c : ℕ} {q : Question} → AccessNo s (holds s b) c toLoad q → PlainNo s (load a b c) q
+    store-no : {a b c : ℕ} {q : Question} → AccessNo s (holds s b) c toStore q → PlainNo s (store a b c) q
 
 module _ (𝒯 : Tables) (P : Routine) where
   -- the first of Q14 and Q15 that a block's end has a no to
@@ -296,7 +304,7 @@ module _ (𝒯 : Tables) (P : Routine) where
     not-less-no : {x y t : ℕ} {K L : Known} → Taken 𝒯 s (ifLess x y t) K → EdgeMeets 𝒯 P s K t
         → Untaken 𝒯 s (ifLess x y t) L → (EdgeMeets 𝒯 P s L b → ⊥) → EdgesNo b s (ifLess x y t) q15
 
-  -- the first of Q7 to Q15 that the instruction at offset j of block b, before which s holds, has a no to
+  -- the first of Q7 to Q15 and Q23 that the instruction at offset j of block b, before which s holds, has a no to
   pub data Disobeys (b j : ℕ) (s : BlockState) : Instruction → Question → Type 0 where
     no-form : Disobeys b j s malformed q7
     too-late : {x : Plain} → suc j ≡ P .long b → Disobeys b j s (plain x) q8

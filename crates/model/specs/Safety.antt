@@ -5,7 +5,7 @@ use Prim.Native.Nat.{ℕ, _+_, _<_}
 use lib.ListN.{length, getD}
 use Rattle.model.specs.Word.{sum}
 use Rattle.model.specs.Table.{Tables, tablesOf, Routine, routineOf}
-use Rattle.model.specs.Meaning.{RecordMeets, RegistersMeet, Outside}
+use Rattle.model.specs.Meaning.{RecordMeets, RegistersMeet, Outside, Locked}
 use Rattle.model.specs.Allocation.{Allocated}
 use Rattle.model.specs.Machine.{load, store, plain, instructionAt, reg, State, halts, step, Passes, Run, answerAt, Ready, ready, begin}
 use Rattle.model.specs.ReadingRules.{TypeGiven}
@@ -30,13 +30,19 @@ module _ (types tags allocations memory : List ℕ) (n : ℕ) (tasks : ℕ → T
     pub eight : (i : ℕ) → i < n → length (tasks i .start .registers) ≡ 8
     pub entered : (i : ℕ) → i < n → (m : List ℕ) × (entryCheck types tags allocations m (tasks i .code) (tasks i .start) .number ≡ 0)
 
-  -- All records, and the registers of every routine that has not halted, fit their types; each word outside is as at the start.
+  -- 02, card 1: 'every locked word must be what it was at the start'
+  abbrev pub LockedKept : List ℕ → Type 0
+  LockedKept m = (x : ℕ) → Locked 𝒯 (Allocated allocations) x → getD m x 0 ≡ getD memory x 0
+
+  -- All records, and the registers of every routine that has not halted, fit their types; each word outside, and each locked word, is as
+  -- at the start.
   pub record AllFit (w : World) : Type 0 where
     pub records : (p t : ℕ) → Allocated allocations p t → RecordMeets 𝒯 (Allocated allocations) (w .memory) p t
     pub registers : (i : ℕ) (g : Ready) → w .standing i ≡ waiting g
         → (g .block < P i .count) × RegistersMeet 𝒯 (Allocated allocations) (P i .annotation (g .block)) (g .registers)
     pub long : length (w .memory) ≡ length memory
     pub outside : (x : ℕ) → Outside 𝒯 (Allocated allocations) x → getD (w .memory) x 0 ≡ getD memory x 0
+    pub lockedKept : LockedKept (w .memory)
 
   -- A type is given to the access through register b at offset c: rb is the start of an allocated record of that type, c is below its
   -- size, and the address does not wrap.
@@ -58,6 +64,7 @@ module _ (types tags allocations memory : List ℕ) (n : ℕ) (tasks : ℕ → T
     pub ends : Ends i budget (begin g (w .memory)) (turnRun tasks w i budget g)
     pub loads : (s : State) → Visits w i budget g s → (a c d : ℕ) → instructionAt (P i) (s .block) (s .offset) ≡ plain (load a c d) → InField i s c d
     pub stores : (s : State) → Visits w i budget g s → (a c d : ℕ) → instructionAt (P i) (s .block) (s .offset) ≡ plain (store a c d) → InField i s c d
+    pub lockedKept : (s : State) → Visits w i budget g s → LockedKept (s .memory)
     pub blockEnds : (s : State) → Visits w i budget g s → s .offset ≡ 0 → AllFit (settled w i (s .memory) (waiting (ready (s .block) (s .registers))))
     pub atHalt : (s s' : State) → Visits w i budget g s → step (P i) s ≡ halts s' → AllFit (settled w i (s' .memory) done)
 

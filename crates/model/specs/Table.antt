@@ -1,12 +1,12 @@
 -- The tables: rows, well-made words, where blocks start, and the questions of tables alone: Q1 to Q6, Q16 and Q17.
-use mathlib.Core.Bool.{Bool}
+use mathlib.Core.Bool.{Bool, not}
 use mathlib.Core.List.{List, [], _∷_}
 use Prim.Native.Nat.{ℕ, zero, suc, _+_, _*_, _/_, _%_}
 use lib.Dec.{ltb, leb, eqb}
 use lib.ListN.{length, getD, take, drop}
 use Rattle.model.specs.Question.{_and_, _or_, pick, every, q1, q2, q3, q4, q5, q6, q16, q17, refusal}
 use Rattle.model.specs.Question.{Outcome, ask, asked, inOrder, firstNo}
-use Rattle.model.specs.Word.{kindOf, recordOf, firstOf, secondOf}
+use Rattle.model.specs.Word.{kindOf, lockedOf, recordOf, firstOf, secondOf}
 use Rattle.model.specs.Types.{Ty, typeOf}
 
 -- ---- the bounds of document 01
@@ -83,6 +83,10 @@ tablesOf types tags = record { count = rows types; size = λ t. headOf types t; 
 -- the type of field f of a record of type t
 abbrev pub fieldOf : Tables → ℕ → ℕ → Ty
 fieldOf 𝒯 t f = typeOf (getD (𝒯 .words t) f 0)
+
+-- 02, card 1: 'Bit 31 of a record's type word now marks a field locked', of field f of a record of type t
+unfoldable pub locked : Tables → ℕ → ℕ → Bool
+locked 𝒯 t f = lockedOf (getD (𝒯 .words t) f 0)
 
 -- ---- what is read of the block and code tables
 
@@ -161,7 +165,7 @@ usesSecond kind = leb 6 kind
 abbrev pub dependency : ℕ → ℕ → Bool
 dependency n x = ltb x n or leb 8 x
 
--- kinds 0 to 8, record types below count, names below n
+-- Kinds 0 to 8, record types below count, names below n. 02, card 1: 'Q3 allows the mark', which is no part of the kind
 unfoldable pub wellMade : ℕ → ℕ → ℕ → Bool
 wellMade count n w =
     leb (kindOf w) 8
@@ -206,8 +210,9 @@ lengthsAsk blocks total = blocksAsk blocks total (rows blocks) 0 0
 
 -- ---- Q6
 
+-- 02, card 1: 'Q3 allows the mark, Q6 does not'
 unfoldable pub annotationWell : ℕ → ℕ → Bool
-annotationWell count w = wellMade count registerCount w
+annotationWell count w = not (lockedOf w) and wellMade count registerCount w
 
 unfoldable pub annotationAsk : ℕ → List ℕ → ℕ → Outcome (Unit {0})
 annotationAsk count blocks b = asked (every registerCount 0 (λ r. annotationWell count (getD (wordsOf blocks b) r 0))) (refusal q6 b 0)

@@ -1,5 +1,5 @@
-// The numbers of document 01: of each question, and of the answers where no question has a no. A question's name is the one that the table
-// of words gives its answer.
+// The numbers of documents 01 and 02: of each question, and of the answers where no question has a no. A question's name is the one that
+// the table of words gives its answer.
 ghost use mathlib.Core.Path.{_≡_};
 ghost use mathlib.Core.List.{map};
 ghost use Rattle.model.specs.Question.{numberOf, questions};
@@ -50,6 +50,9 @@ pub const REFERENCE: u32 = 10;
 // Q11 'c below the size?'
 pub const OFFSET: u32 = 11;
 
+// 02, card 1: '23, a store to a locked field, asked after Q11 and before Q12'
+pub const LOCKED_FIELD: u32 = 23;
+
 // Q12 'No record open, or base the very value that opened it?'
 pub const OTHER_RECORD: u32 = 12;
 
@@ -86,8 +89,8 @@ pub const REGISTER: u32 = 21;
 
 // ---- all of them
 
-// The numbers of the questions, in order.
-pub fn questions() -> [u32; 21]
+// The numbers of the questions, each after the lesser ones.
+pub fn questions() -> [u32; 22]
     ensures { λ r. ⌜ r ≡ map numberOf questions ⌝ }
 {
     [
@@ -112,5 +115,6 @@ pub fn questions() -> [u32; 21]
         ALLOCATION,
         FIELD,
         REGISTER,
+        LOCKED_FIELD,
     ]
 }

@@ -2,7 +2,12 @@
 // then the type word of each field or register, which is Any where nothing is said.
 use model::limit;
 
-// ---- type words: kind in bits 31 to 24, record type in 23 to 16, dependency in 15 to 8
+// ---- type words: mark of a locked field in bit 31, kind in bits 30 to 24, record type in 23 to 16, dependency in 15 to 8
+
+// Any: every word.
+pub fn any() -> u32 {
+    0
+}
 
 // Ref: the start of a record of this type.
 pub fn reference(record_type: u8) -> u32 {
@@ -12,6 +17,11 @@ pub fn reference(record_type: u8) -> u32 {
 // Tagged: 0, or the start of a record of the type that the tag tells of; the tag is in a field or register, or a constant.
 pub fn tagged(dependency: u8) -> u32 {
     50331648 + dependency as u32 * 256
+}
+
+// The same type, of a field that no routine may write.
+pub fn locked(word: u32) -> u32 {
+    word % 2147483648 + 2147483648
 }
 
 // The dependency that is a constant, 0 to 247.

@@ -1,5 +1,6 @@
 // Two barley lines, one plot each, and a moisture reading of 22 per cent on the second plot: a correction routine that sets the stage
-// before the weight is refused; the right one takes turns with a ranking, which sees the old plot or the new one and nothing between.
+// before the weight is refused, and so is one that writes over what was weighed; the right one takes turns with a ranking, which sees the
+// old plot or the new one and nothing between.
 mod assembly;
 mod plots;
 mod routines;
@@ -47,6 +48,18 @@ fn judged_hasty(out: &mut [u8; output::BUFFER], n: usize) -> usize {
         out,
         n,
         b"stage first, weight in a later block:",
+        &blocks,
+        &code,
+    )
+}
+
+fn judged_overwriting(out: &mut [u8; output::BUFFER], n: usize) -> usize {
+    let blocks = routines::correction_blocks();
+    let code = routines::overwriting_code();
+    judged(
+        out,
+        n,
+        b"corrected weight over the raw one:",
         &blocks,
         &code,
     )
@@ -264,15 +277,16 @@ fn taken_in(out: &mut [u8; output::BUFFER], n: usize, order: u32) -> usize {
 fn main() {
     let mut out = [0u8; output::BUFFER];
     let a = judged_hasty(&mut out, 0);
-    let b = judged_correction(&mut out, a);
-    let c = judged_ranking(&mut out, b);
-    let d = remembered(&mut out, c);
-    let e = entered_correction(&mut out, d);
-    let f = entered_ranking(&mut out, e);
-    let g = taken_in(&mut out, f, RANKING_FIRST);
-    let h = taken_in(&mut out, g, IN_TURN_FROM_THE_RANKING);
-    let i = taken_in(&mut out, h, IN_TURN_FROM_THE_CORRECTION);
-    let j = taken_in(&mut out, i, TWO_AND_TWO);
-    let k = taken_in(&mut out, j, CORRECTION_FIRST);
-    page::write(&out, k);
+    let b = judged_overwriting(&mut out, a);
+    let c = judged_correction(&mut out, b);
+    let d = judged_ranking(&mut out, c);
+    let e = remembered(&mut out, d);
+    let f = entered_correction(&mut out, e);
+    let g = entered_ranking(&mut out, f);
+    let h = taken_in(&mut out, g, RANKING_FIRST);
+    let i = taken_in(&mut out, h, IN_TURN_FROM_THE_RANKING);
+    let j = taken_in(&mut out, i, IN_TURN_FROM_THE_CORRECTION);
+    let k = taken_in(&mut out, j, TWO_AND_TWO);
+    let l = taken_in(&mut out, k, CORRECTION_FIRST);
+    page::write(&out, l);
 }

@@ -2,7 +2,7 @@
 
 use super::assembly;
 
-// Weight, moisture.
+// Weight, moisture, both locked: they stay as they were weighed.
 pub const RAW: u8 = 0;
 
 // Weight.
@@ -14,6 +14,8 @@ pub const PLOT: u8 = 2;
 pub fn types() -> [u32; 27] {
     let mut types = [0u32; 27];
     assembly::row(&mut types, RAW, 2);
+    assembly::typed(&mut types, RAW, 0, assembly::locked(assembly::any()));
+    assembly::typed(&mut types, RAW, 1, assembly::locked(assembly::any()));
     assembly::row(&mut types, CORRECTED, 1);
     assembly::row(&mut types, PLOT, 2);
     assembly::typed(&mut types, PLOT, 1, assembly::tagged(0));

@@ -1,5 +1,5 @@
-// The routines of the example: a correction for moisture, one that is hasty, and a ranking. In all of them r1 is the plot, r2 its stage and
-// r3 its pointer.
+// The routines of the example: a correction for moisture, one that is hasty, one that overwrites what was weighed, and a ranking. In all of
+// them r1 is the plot, r2 its stage and r3 its pointer.
 use super::assembly::constant;
 use super::assembly::divide;
 use super::assembly::halt;
@@ -66,7 +66,14 @@ pub fn correction_code() -> [u32; 16] {
     ]
 }
 
-// The same with the pointer set in a block of its own, after the stage.
+// The same with the corrected weight stored over the raw one, and not in the corrected record.
+pub fn overwriting_code() -> [u32; 16] {
+    let mut code = correction_code();
+    code[11] = store(5, 3, 0);
+    code
+}
+
+// The correction with the pointer set in a block of its own, after the stage.
 pub fn hasty_blocks() -> [u32; 45] {
     let mut blocks = [0u32; 45];
     begun(&mut blocks);

@@ -153,7 +153,7 @@ fn step(
     s
 }
 
-// Q7 to Q12 of an instruction inside a block. It is not asked Q9, so it is of no account which block it is in.
+// Q7 to Q12 and Q23 of an instruction inside a block. It is not asked Q9, so it is of no account which block it is in.
 pub fn read_inside(
     rows: &[[u32; 2]; instruction::OPCODES],
     types: &[u32],

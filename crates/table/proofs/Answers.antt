@@ -12,10 +12,10 @@ use lib.ListN.{length, drop, getD, set, length-set}
 use lib.Seq.{getD-set-same, getD-set-other}
 use borrow.Author.Tests.{lt-ltb, le-ltb, le-leb, lt-leb, eq-eqb, ne-eqb}
 use Rattle.model.specs.Question.{_and_, _or_, pick, every, q2, q3, q4, q5, q6, refusal, Outcome, ok, refused, passed, refusing, verdictOf, provided}
-use Rattle.model.specs.Word.{kindOf, recordOf, firstOf, secondOf}
+use Rattle.model.specs.Word.{kindOf, lockedOf, recordOf, firstOf, secondOf}
 use Rattle.model.specs.Table.{wholeRows, wellMade, headOf, wordsOf, rows, tablesOf, countAsk, fieldWell, fieldsAsk, tagAsk, typesAsk, startOf}
 use Rattle.model.specs.Table.{blocksAsk, lengthsAsk, annotationWell, annotationAsk, typesQuestions}
-use Rattle.table.specs.Row.{placeWell}
+use Rattle.table.specs.Row.{placeWell, rowWell}
 use Rattle.model.proofs.Logic.{pick-true}
 use Rattle.table.proofs.Laws.{recordPart, dependencyPart, lengthWell, start-none, uses-span}
 use Rattle.table.proofs.Questions.{left, ComesTo}
@@ -99,9 +99,28 @@ module _ (count n w : ℕ) (l : 6 ≤ kindOf w) (h : kindOf w ≤ 8) (t : ℕ) (
         sym (second-used y)
         ∙ well-second count n w (kindOf w) refl h t et (record-used ∙ lt-ltb t count m) x ex (first-used x ∙ e) y ey
 
-pub place-is : (count n : ℕ) (words : List ℕ) (f w : ℕ) → w ≡ getD words f 0 → pick (ltb f n) (wellMade count n w) (eqb w 0) ≡ placeWell count n words f
-unfolding placeWell
-place-is count n words f w e = rw e
+-- the word w of place f, by whether marks are allowed
+module _ (count n : ℕ) (marks : Bool) (f w : ℕ) where
+  pub place-past : n ≤ f → eqb w 0 ≡ placeWell count n marks f w
+  unfolding placeWell
+  place-past h = rw (le-ltb f n h)
+
+  module _ (h : f < n) where
+    pub place-allowed : marks ≡ true → wellMade count n w ≡ placeWell count n marks f w
+    unfolding placeWell _or_ _and_
+    place-allowed m = rw (lt-ltb f n h, m)
+
+    pub place-marked : marks ≡ false → lockedOf w ≡ true → false ≡ placeWell count n marks f w
+    unfolding placeWell _or_ _and_
+    place-marked m l = rw (lt-ltb f n h, m, l)
+
+    pub place-unmarked : marks ≡ false → lockedOf w ≡ false → wellMade count n w ≡ placeWell count n marks f w
+    unfolding placeWell _or_ _and_
+    place-unmarked m l = rw (lt-ltb f n h, m, l)
+
+pub place-is : (count n : ℕ) (marks : Bool) (words : List ℕ) (f w : ℕ) → w ≡ getD words f 0 → placeWell count n marks f w ≡ rowWell count n marks words f
+unfolding rowWell
+place-is count n marks words f w e = rw e
 
 -- ---- Q2 to Q4, of one row
 
@@ -118,15 +137,15 @@ module _ (types tags : List ℕ) (t n : ℕ) (e : n ≡ headOf types t) where
   unfolding countAsk tablesOf provided _and_
   count-many l m = rw (← e, le-leb 1 n l, lt-leb n 8 m)
 
-  fields-are : every 8 0 (placeWell (rows types) n (wordsOf types t)) ≡ every 8 0 (fieldWell (tablesOf types tags) t)
-  unfolding placeWell fieldWell tablesOf every
+  fields-are : every 8 0 (rowWell (rows types) n true (wordsOf types t)) ≡ every 8 0 (fieldWell (tablesOf types tags) t)
+  unfolding rowWell placeWell fieldWell tablesOf every _or_ _and_
   fields-are = rw e
 
-  pub fields-yes : every 8 0 (placeWell (rows types) n (wordsOf types t)) ≡ true → fieldsAsk (tablesOf types tags) t ≡ ok tt
+  pub fields-yes : every 8 0 (rowWell (rows types) n true (wordsOf types t)) ≡ true → fieldsAsk (tablesOf types tags) t ≡ ok tt
   unfolding fieldsAsk provided
   fields-yes h = rw (← fields-are, h)
 
-  pub fields-no : every 8 0 (placeWell (rows types) n (wordsOf types t)) ≡ false → fieldsAsk (tablesOf types tags) t ≡ refused (refusal q3 t 0)
+  pub fields-no : every 8 0 (rowWell (rows types) n true (wordsOf types t)) ≡ false → fieldsAsk (tablesOf types tags) t ≡ refused (refusal q3 t 0)
   unfolding fieldsAsk provided
   fields-no h = rw (← fields-are, h)
 
@@ -210,14 +229,14 @@ module _ (blocks starts : List ℕ) where
 -- ---- Q6
 
 module _ (count : ℕ) (blocks : List ℕ) (b : ℕ) where
-  annotation-is : every 8 0 (placeWell count 8 (wordsOf blocks b)) ≡ every 8 0 (λ r. annotationWell count (getD (wordsOf blocks b) r 0))
-  unfolding placeWell annotationWell every
+  annotation-is : every 8 0 (rowWell count 8 false (wordsOf blocks b)) ≡ every 8 0 (λ r. annotationWell count (getD (wordsOf blocks b) r 0))
+  unfolding rowWell placeWell annotationWell every _or_
   annotation-is = refl
 
-  pub annotation-yes : every 8 0 (placeWell count 8 (wordsOf blocks b)) ≡ true → annotationAsk count blocks b ≡ ok tt
+  pub annotation-yes : every 8 0 (rowWell count 8 false (wordsOf blocks b)) ≡ true → annotationAsk count blocks b ≡ ok tt
   unfolding annotationAsk provided
   annotation-yes h = rw (← annotation-is, h)
 
-  pub annotation-no : every 8 0 (placeWell count 8 (wordsOf blocks b)) ≡ false → annotationAsk count blocks b ≡ refused (refusal q6 b 0)
+  pub annotation-no : every 8 0 (rowWell count 8 false (wordsOf blocks b)) ≡ false → annotationAsk count blocks b ≡ refused (refusal q6 b 0)
   unfolding annotationAsk provided
   annotation-no h = rw (← annotation-is, h)

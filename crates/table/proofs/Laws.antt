@@ -302,7 +302,7 @@ module _ (count : ℕ) (blocks : List ℕ) (q : annotationsAsk count blocks ≡ 
   pub annotation-well-made : (b r : ℕ) → b < rows blocks → r < 8 → wellMade count 8 (getD (wordsOf blocks b) r 0) ≡ true
   unfolding annotationsAsk annotationAsk annotationWell
   annotation-well-made b r h l =
-      every-true 8 0 _ (ask-ok _ _ _ (firstNo-ok _ 0 _ q b (omega arith) (omega arith)) .0) r (omega arith) (omega arith)
+      and-true _ _ (every-true 8 0 _ (ask-ok _ _ _ (firstNo-ok _ 0 _ q b (omega arith) (omega arith)) .0) r (omega arith) (omega arith)) .1
 
 -- ---- Q16
 

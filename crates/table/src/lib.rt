@@ -8,7 +8,7 @@ ghost use Rattle.model.specs.Question.{_and_, pick, every, firstNo, verdictOf};
 ghost use Rattle.model.specs.Word.{kindOf};
 ghost use Rattle.model.specs.Table.{rowOf, rows, headOf, wordsOf, tablesOf, startOf, wholeRows, typeLengthsAsk, codeLengthsAsk, countAsk, usesRecord};
 ghost use Rattle.model.specs.Table.{dependency, wellMade, fieldsAsk, tagAsk, typesAsk, lengthsAsk, annotationsAsk};
-ghost use Rattle.table.specs.Row.{placeWell};
+ghost use Rattle.table.specs.Row.{placeWell, rowWell};
 use model::Verdict;
 use model::limit;
 use model::number;
@@ -144,7 +144,7 @@ fn span_well(count: u32, n: u32, w: u32) -> bool
     dependency_well(true, n, word::second_dependency(w))
 }
 
-// Whether w is a type word over count record types and n names. Any, the word 0, is by far the most common.
+// Whether w is a type word over count record types and n names, be it marked or not. Any, the word 0, is by far the most common.
 pub fn well_made(count: u32, n: u32, w: u32) -> bool
     ensures { λ r. ⌜ r ≡ wellMade count n w ⌝ }
 {
@@ -167,24 +167,30 @@ pub fn well_made(count: u32, n: u32, w: u32) -> bool
     word::second_dependency(w) == 0
 }
 
-// Whether word w of place f is well made, or zero past the n places in use.
-fn place_well(count: u32, n: u32, f: usize, w: u32) -> bool
-    ensures { λ r. ⌜ r ≡ pick (ltb f n) (wellMade count n w) (eqb w 0) ⌝ }
+// Whether word w of place f is well made, and marked only where marks are allowed, or zero past the n places in use.
+fn place_well(count: u32, n: u32, marks: bool, f: usize, w: u32) -> bool
+    ensures { λ r. ⌜ r ≡ placeWell count n marks f w ⌝ }
 {
-    if f < (n as usize) {
+    if (n as usize) <= f {
+        return w == 0;
+    }
+    if marks {
         return well_made(count, n, w);
     }
-    w == 0
+    if word::locked(w) {
+        return false;
+    }
+    well_made(count, n, w)
 }
 
 // Whether the eight type words of row k are well made.
-fn words_well(table: &[u32], k: usize, count: u32, n: u32) -> bool
+fn words_well(table: &[u32], k: usize, count: u32, n: u32, marks: bool) -> bool
     requires { ⌜ k * 9 + 9 ≤ length (now table) ⌝ }
-    ensures { λ r. ⌜ r ≡ every 8 0 (placeWell count n (wordsOf (now (table .entry)) k)) ⌝ }
+    ensures { λ r. ⌜ r ≡ every 8 0 (rowWell count n marks (wordsOf (now (table .entry)) k)) ⌝ }
 {
     let mut f = 0;
     while f < limit::TYPE_WORDS {
-        if !place_well(count, n, f, type_word(table, k, f)) {
+        if !place_well(count, n, marks, f, type_word(table, k, f)) {
             return false;
         }
         f += 1;
@@ -214,7 +220,7 @@ fn field_counts(types: &[u32]) -> Verdict
     answer::passed()
 }
 
-// Q3.
+// Q3. It allows the mark of a locked field.
 fn field_words(types: &[u32]) -> Verdict
     requires { ⌜ length (now types) ≤ 576 ⌝ }
     ensures { λ r. ⌜ ((tags : List ℕ) → r ≡ verdictOf (firstNo (rows (now (types .entry))) 0 (fieldsAsk (tablesOf (now (types .entry)) tags)))) ⌝ }
@@ -222,7 +228,7 @@ fn field_words(types: &[u32]) -> Verdict
     let count = types.len() / limit::ROW_WORDS;
     let mut t = 0;
     while t < count {
-        if !words_well(types, t, count as u32, head(types, t)) {
+        if !words_well(types, t, count as u32, head(types, t), true) {
             return answer::refused(number::FIELD_TYPE, t);
         }
         t += 1;
@@ -305,7 +311,7 @@ pub fn lengths(blocks: &[u32], code: &[u32], starts: &mut [u32; limit::BLOCKS + 
     answer::passed()
 }
 
-// Q6, over count record types.
+// Q6, over count record types. A register is no field, and its word has no mark.
 pub fn annotations(count: u32, blocks: &[u32]) -> Verdict
     requires { ⌜ length (now blocks) ≤ 2304 ⌝ }
     ensures { λ r. ⌜ r ≡ verdictOf (annotationsAsk count (now (blocks .entry))) ⌝ }
@@ -313,7 +319,7 @@ pub fn annotations(count: u32, blocks: &[u32]) -> Verdict
     let total = blocks.len() / limit::ROW_WORDS;
     let mut b = 0;
     while b < total {
-        if !words_well(blocks, b, count, NAMES) {
+        if !words_well(blocks, b, count, NAMES, false) {
             return answer::refused(number::ANNOTATION, b);
         }
         b += 1;

@@ -21,7 +21,7 @@ fn written(bytes: &[u8]) -> bool {
 }
 
 pub fn version() -> bool {
-    written(b"ramdulsi 0.4.0\n")
+    written(b"ramdulsi 0.5.0\n")
 }
 
 pub fn help() -> bool {

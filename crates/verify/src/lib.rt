@@ -1,4 +1,4 @@
-// The check of a routine: Q7 to Q15 of its blocks, and the public call with Q1 to Q15.
+// The check of a routine: Q7 to Q15 and Q23 of its blocks, and the public call, which asks Q1 to Q6 before them.
 //
 // The arrays of a block's reading are locals of `block` and of `inside`, lent to what reads its instructions.
 ghost use mathlib.Core.Path.{_≡_};
@@ -33,7 +33,7 @@ struct Stopped {
     at: usize,
 }
 
-// Q7, Q8 and Q10 to Q12 of the instructions before the last of a block, whose code is part.
+// Q7, Q8, Q10 to Q12 and Q23 of the instructions before the last of a block, whose code is part.
 fn inside(
     rows: &[[u32; 2]; instruction::OPCODES],
     types: &[u32],
@@ -142,7 +142,7 @@ fn block_end(
     )
 }
 
-// Q7 to Q15 of block b, whose code is part and starts at first.
+// Q7 to Q15 and Q23 of block b, whose code is part and starts at first.
 fn block(
     rows: &[[u32; 2]; instruction::OPCODES],
     types: &[u32],
@@ -195,7 +195,7 @@ fn block(
     answer::passed()
 }
 
-// Q7 to Q15 of all blocks, in order. The code of block b is from starts[b] to starts[b + 1].
+// Q7 to Q15 and Q23 of all blocks, in order. The code of block b is from starts[b] to starts[b + 1].
 fn judge(
     types: &[u32],
     tags: &[u32],
@@ -224,7 +224,7 @@ fn judge(
 
 // ---- the check
 
-// The check of a routine: the first no of Q1 to Q15, with its place. All questions of the tables are asked here: so the compiler takes
+// The check of a routine: the first no, with its place. All questions of the tables are asked here: so the compiler takes
 // the blocks for what is seldom come to, and leaves `judge` a function of its own, in which the loops have the registers to themselves.
 pub fn check(types: &[u32], tags: &[u32], blocks: &[u32], code: &[u32]) -> Verdict
     ensures { λ r. ⌜ r ≡ check (now (types .entry)) (now (tags .entry)) (codeOf (now (blocks .entry)) (now (code .entry))) ⌝ }

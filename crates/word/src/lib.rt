@@ -1,7 +1,7 @@
 // 32-bit words: sums, differences, products and moves modulo 2^32, the signed offset, bytes, and the parts of type words and instructions.
 ghost use mathlib.Core.Path.{_≡_};
 ghost use Prim.Native.Nat.{_/_, _<_};
-ghost use Rattle.model.specs.Word.{kindOf, recordOf, firstOf, secondOf, opcodeOf, aOf, bOf, cOf, sum, difference, product, signed, moved, withKind};
+ghost use Rattle.model.specs.Word.{kindOf, lockedOf, recordOf, firstOf, secondOf, opcodeOf, aOf, bOf, cOf, sum, difference, product, signed, moved, withKind};
 
 // ---- sums, differences and products modulo 2^32
 
@@ -92,18 +92,28 @@ pub const IN: u32 = 8;
 // The weight of a kind in its type word.
 const KIND: u32 = 16777216;
 
+// The mark of a locked field, above the seven bits of the kind.
+pub const LOCKED: u32 = 2147483648;
+
 // Dependency bytes from here on are constants.
 pub const CONSTANTS: u32 = 8;
 
 pub fn kind(w: u32) -> u32
-    ensures { λ r. ⌜ (r ≡ kindOf w) × (r < 256) ⌝ }
+    ensures { λ r. ⌜ (r ≡ kindOf w) × (r < 128) ⌝ }
 {
-    w / KIND
+    w / KIND % 128
 }
 
-// w with another kind.
+// Whether w has the mark.
+pub fn locked(w: u32) -> bool
+    ensures { λ r. ⌜ r ≡ lockedOf w ⌝ }
+{
+    LOCKED <= w
+}
+
+// w with another kind, and no mark.
 pub fn with_kind(kind: u32, w: u32) -> u32
-    requires { ⌜ kind < 256 ⌝ }
+    requires { ⌜ kind < 128 ⌝ }
     ensures { λ r. ⌜ r ≡ withKind kind w ⌝ }
 {
     kind * KIND + w % KIND

@@ -30,6 +30,9 @@ fn later(out: &mut [u8; output::BUFFER], n: usize, a: Asked) -> usize
     if row <= number::REGISTER {
         return rows::registers(out, n, a);
     }
+    if row == number::LOCKED_FIELD {
+        return rows::accesses(out, n, a);
+    }
     if row == number::PAUSED {
         return rows::outcomes(out, n, a);
     }
@@ -56,11 +59,14 @@ fn cell(out: &mut [u8; output::BUFFER], n: usize, a: Asked) -> usize
     if row <= number::TARGET {
         return rows::forms(out, n, a);
     }
-    if row <= number::OTHER_RECORD {
+    if row <= number::OFFSET {
         return rows::accesses(out, n, a);
     }
+    if row <= number::OPEN_RECORD {
+        return rows::open_records(out, n, a);
+    }
     if row <= number::UNTAKEN_EDGE {
-        return rows::ends(out, n, a);
+        return rows::edges(out, n, a);
     }
     later(out, n, a)
 }

@@ -55,7 +55,7 @@ pub fn types(out: &mut [u8; output::BUFFER], n: usize, a: Asked) -> usize
               of the record, or something in a part that its kind does not use; or a word past the last field is not 0|\
               a type word taken from an annotation, where 0 to 7 are registers|\
               name a field by its number, 0 to the field count less 1, and a constant by 8 more than it is; let all else be \
-              0|\
+              0, but for bit 31 of a field that is locked|\
               type row A",
         );
     }
@@ -99,10 +99,10 @@ pub fn blocks(out: &mut [u8; output::BUFFER], n: usize, a: Asked) -> usize
             a,
             b"annotation|\
               a type word of a block's annotation has an unknown kind, a record type that is not in the table, or something \
-              in a part that its kind does not use|\
-              record types counted from 1, or a part left from another kind|\
-              write the word anew: kind in bits 31 to 24, record type in 23 to 16, dependencies in 15 to 8 and 7 to 0, and 0 \
-              where the kind has none|\
+              in a part that its kind does not use; or it has the mark of a locked field|\
+              record types counted from 1, a part left from another kind, or a type word taken from a record|\
+              write the word anew: 0 in bit 31, kind in bits 30 to 24, record type in 23 to 16, dependencies in 15 to 8 and 7 to \
+              0, and 0 where the kind has none|\
               block row A",
         );
     }
@@ -184,6 +184,26 @@ pub fn accesses(out: &mut [u8; output::BUFFER], n: usize, a: Asked) -> usize
               block A, code index B",
         );
     }
+    if a.number == number::LOCKED_FIELD {
+        return said(
+            out,
+            n,
+            a,
+            b"locked field|\
+              a store goes to a field that is locked: routines load it, and none may write it|\
+              a correction written over what was weighed|\
+              store the new word in another field; or, if routines may write this one, take bit 31 out of its type word|\
+              block A, code index B",
+        );
+    }
+    said(out, n, a, b"")
+}
+
+// Records that are half written.
+pub fn open_records(out: &mut [u8; output::BUFFER], n: usize, a: Asked) -> usize
+    requires { ⌜ n + 16384 ≤ buffer ⌝ }
+    ensures { λ r. ⌜ Told (saidText a) (now (out .entry)) n r (now (out .exit)) ⌝ }
+{
     if a.number == number::OTHER_RECORD {
         return said(
             out,
@@ -196,14 +216,6 @@ pub fn accesses(out: &mut [u8; output::BUFFER], n: usize, a: Asked) -> usize
               block A, code index B",
         );
     }
-    said(out, n, a, b"")
-}
-
-// The end of a block.
-pub fn ends(out: &mut [u8; output::BUFFER], n: usize, a: Asked) -> usize
-    requires { ⌜ n + 16384 ≤ buffer ⌝ }
-    ensures { λ r. ⌜ Told (saidText a) (now (out .entry)) n r (now (out .exit)) ⌝ }
-{
     if a.number == number::OPEN_RECORD {
         return said(
             out,
@@ -216,6 +228,14 @@ pub fn ends(out: &mut [u8; output::BUFFER], n: usize, a: Asked) -> usize
               block A, code index B",
         );
     }
+    said(out, n, a, b"")
+}
+
+// The edges from a block's end.
+pub fn edges(out: &mut [u8; output::BUFFER], n: usize, a: Asked) -> usize
+    requires { ⌜ n + 16384 ≤ buffer ⌝ }
+    ensures { λ r. ⌜ Told (saidText a) (now (out .entry)) n r (now (out .exit)) ⌝ }
+{
     if a.number == number::TAKEN_EDGE {
         return said(
             out,

@@ -29,6 +29,7 @@ pub enum Answer {
     Allocation,
     Field,
     Register,
+    LockedField,
     Paused,
 }
 
@@ -44,7 +45,7 @@ const fn row(answer: Answer, number: u32, name: &'static str, meaning: &'static 
 }
 
 // In the order of the enum, so that an answer is the place of its row. A test holds name and meaning against docs/REFUSALS.md.
-const ROWS: [Row; 24] = [
+const ROWS: [Row; 25] = [
     row(Answer::Passed, 0, "passed", "no question of the check has a no"),
     row(Answer::Halted, 0, "halted", "the run carried out a halt"),
     row(
@@ -75,7 +76,7 @@ const ROWS: [Row; 24] = [
         6,
         "annotation",
         "a type word of a block's annotation has an unknown kind, a record type that is not in the table, or something in a part \
-         that its kind does not use",
+         that its kind does not use; or it has the mark of a locked field",
     ),
     row(
         Answer::Instruction,
@@ -118,6 +119,12 @@ const ROWS: [Row; 24] = [
     ),
     row(Answer::Field, 20, "field", "a word of a record does not meet its field's type"),
     row(Answer::Register, 21, "register", "a register does not meet the annotation of the block to start at"),
+    row(
+        Answer::LockedField,
+        23,
+        "locked field",
+        "a store goes to a field that is locked: routines load it, and none may write it",
+    ),
     row(Answer::Paused, 40, "paused", "the budget of blocks is finished, and the routine has not halted"),
 ];
 

@@ -53,7 +53,7 @@ pub const PAUSED: u32 = Answer::Paused.number();
 /// - 1: table (0 types, 1 tags, 2 blocks, 3 code), 0
 /// - 2, 3: row of types, 0; 4: tag, 0
 /// - 5, 6: row of blocks, 0; for 5 the block count where code is left over after the last block
-/// - 7 to 15: block, index over the whole code
+/// - 7 to 15, 23: block, index over the whole code
 /// - 16, 17: 0, 0
 /// - 19: row of allocations, 0; row 0 for a list that is no whole rows or too long
 /// - 20: row of allocations, field

@@ -12,7 +12,10 @@ pub const NO_WORD: u32 = 0xffff_ffff;
 /// A dependency byte from here on is a constant, by so much more than it is; one below is a field or a register.
 pub const CONSTANTS: u32 = 8;
 
-/// The kind of a type word, its bits 31 to 24.
+/// Bit 31 of a type word: the field is locked. In an annotation it is refused.
+pub const LOCKED: u32 = 0x8000_0000;
+
+/// The kind of a type word, its bits 30 to 24.
 #[derive(Clone, Copy, Debug, PartialEq, Eq, Hash)]
 #[repr(u32)]
 pub enum Kind {
@@ -31,9 +34,9 @@ impl Kind {
     pub const ALL: [Kind; 9] =
         [Kind::Any, Kind::Ref, Kind::Maybe, Kind::Tagged, Kind::Present, Kind::Same, Kind::Run, Kind::From, Kind::In];
 
-    /// The kind of a type word; none where it is unknown.
+    /// The kind of a type word, locked or not; none where it is unknown.
     pub const fn of(word: u32) -> Option<Kind> {
-        let kind = (word >> 24) as usize;
+        let kind = ((word & !LOCKED) >> 24) as usize;
         if kind < Kind::ALL.len() {
             Some(Kind::ALL[kind])
         } else {
@@ -164,7 +167,7 @@ pub const fn of_constant(constant: u32) -> u32 {
 
 // ---- type words
 
-/// A type word of its parts: kind, record type in bits 23 to 16, dependency d in 15 to 8, dependency e in 7 to 0.
+/// A type word of its parts: kind in bits 30 to 24, record type in 23 to 16, dependency d in 15 to 8, dependency e in 7 to 0.
 pub const fn type_word(kind: Kind, record: u32, d: u32, e: u32) -> u32 {
     if record > 255 || d > 255 || e > 255 {
         return NO_WORD;
@@ -215,6 +218,11 @@ pub const fn type_from(record: u32, d: u32, e: u32) -> u32 {
 /// That, and below e: the start of one of these records.
 pub const fn type_in(record: u32, d: u32, e: u32) -> u32 {
     type_word(Kind::In, record, d, e)
+}
+
+/// The same type, of a field that is locked: routines load it, and one that stores to it is refused.
+pub const fn type_locked(word: u32) -> u32 {
+    word | LOCKED
 }
 
 // ---- rows

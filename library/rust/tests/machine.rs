@@ -1,7 +1,7 @@
 //! The words that the binding makes, as the archive reads them: an instruction of each opcode carried out, a type of each kind checked.
 
 use ramdulsi::word::*;
-use ramdulsi::{check, entry_check, memory_check, run, Answer};
+use ramdulsi::{check, entry_check, memory_check, run, Answer, Kind};
 
 const ANY: u32 = type_any();
 const NOTHING: [u32; 8] = [ANY; 8];
@@ -67,6 +67,22 @@ fn kinds() {
         assert_eq!(entry(yes), Some(Answer::Passed), "{word:08x} of {yes}");
         assert_eq!(entry(no), Some(Answer::Register), "{word:08x} of {no}");
     }
+}
+
+/// A record of a locked weight and a note: the weight is loaded, and never stored; a locked word has the meaning of its kind.
+#[test]
+fn locked_fields() {
+    let types = row_of_type(&[type_locked(type_ref(0)), ANY]);
+    let blocks = row_of_block(2, [ANY, type_ref(0), ANY, ANY, ANY, ANY, ANY, ANY]);
+    let answer = |code| check(&types, &[], &blocks, &[code, code_halt()]).answer();
+    assert_eq!(answer(code_load(2, 1, 0)), Some(Answer::Passed));
+    assert_eq!(answer(code_store(2, 1, 1)), Some(Answer::Passed));
+    assert_eq!(answer(code_store(1, 1, 0)), Some(Answer::LockedField));
+    assert_eq!(memory_check(&types, &[], &row_of_allocation(1, 0), &[0, 1, 0]).answer(), Some(Answer::Passed));
+    assert_eq!(memory_check(&types, &[], &row_of_allocation(1, 0), &[0, 2, 0]).answer(), Some(Answer::Field));
+    let annotated = row_of_block(1, [type_locked(ANY); 8]);
+    assert_eq!(check(&TYPES, &[], &annotated, &[code_halt()]).answer(), Some(Answer::Annotation));
+    assert_eq!((Kind::of(types[1]), Kind::of(NO_WORD)), (Some(Kind::Ref), None));
 }
 
 #[test]

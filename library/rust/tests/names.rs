@@ -36,7 +36,8 @@ fn numbers_are_those_of_the_header() {
     assert_eq!(defined("ANSWER_"), answers);
     let kinds = Kind::ALL.map(|kind| (constant(kind.name()), kind as u64));
     assert_eq!(defined("KIND_")[..9], kinds);
-    assert_eq!(defined("KIND_")[9..], [("CONSTANTS".to_string(), u64::from(CONSTANTS))]);
+    let others = [("CONSTANTS", CONSTANTS), ("LOCKED", LOCKED)];
+    assert_eq!(defined("KIND_")[9..], others.map(|(name, value)| (name.to_string(), u64::from(value))));
     let opcodes = Opcode::ALL.map(|opcode| (constant(opcode.name()), opcode as u64));
     assert_eq!(defined("OPCODE_"), opcodes);
     let stack = [("", limit::STACK), ("_CHECKING_MEMORY", limit::STACK_CHECKING_MEMORY)];
@@ -73,7 +74,7 @@ fn an_answer_is_found_by_its_number() {
         assert_eq!(Answer::of_check(answer.number()), Some(of_check));
         assert_eq!(Answer::of_run(answer.number()), Some(of_run));
     }
-    assert_eq!((Answer::of_check(23), Answer::of_run(41)), (None, None));
+    assert_eq!((Answer::of_check(22), Answer::of_run(41)), (None, None));
 }
 
 /// Each call as it is written, with its word.
@@ -90,7 +91,8 @@ fn words() -> Vec<(&'static str, u32)> {
         of_constant(0xffffffff), type_any(), type_ref(2), type_maybe(63), type_tagged(of_field(1)), type_tagged(of_constant(248)),
         type_present(of_register(2)), type_same(of_constant(1)), type_run(2, of_register(3), of_register(4)),
         type_from(2, of_constant(1), of_constant(7)), type_in(2, of_register(5), of_register(8)),
-        type_in(2, of_register(5), of_register(6)),
+        type_in(2, of_register(5), of_register(6)), type_locked(type_any()), type_locked(type_tagged(of_field(1))),
+        type_locked(type_ref(256)),
     ];
     let code = shown![
         code_constant(1, 65535), code_copy(2, 3), code_add(1, 2, 3), code_add(1, 2, 8), code_subtract(4, 5, 6),

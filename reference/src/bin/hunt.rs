@@ -16,7 +16,7 @@ fn main() {
         }
     }
     println!(
-        "seed {seed}: {cases} cases, {} accepted routines took {} turns, {} memories changed: all safe",
-        seen.routines, seen.turns, seen.changed
+        "seed {seed}: {cases} cases, {} accepted routines took {} turns, all safe; {} memories changed, {} locked words kept",
+        seen.routines, seen.turns, seen.changed, seen.locked
     );
 }

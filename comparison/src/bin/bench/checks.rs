@@ -2,7 +2,7 @@
 
 use crate::row::{body, constant, ins, nine, onward, routine, ty, Call, Input, Row};
 use ramdulsi_reference::generate::Case;
-use ramdulsi_reference::tables::{FROM, IN, MAYBE, PRESENT, REF, RUN, SAME, TAGGED};
+use ramdulsi_reference::tables::{FROM, IN, LOCKED, MAYBE, PRESENT, REF, RUN, SAME, TAGGED};
 
 /// The check of a routine of 256 blocks of 32 instructions.
 fn straight(name: &str, types: &[Vec<u32>], tags: &[u32], annotation: &[u32], body: &[u32]) -> Row {
@@ -28,6 +28,9 @@ pub fn rows() -> Vec<Row> {
     let loads = body(|i| ins(8, 2 + i % 5, i & 1, i % 8));
     let stores = body(|i| ins(9, 2, 1, i % 8));
     let back = body(|i| ins(8 + i % 2, 2, 0, i / 2 % 8));
+    // what was weighed is loaded, and what is computed from it stored beside it
+    let weighed = nine(8, &[LOCKED; 4]);
+    let computed = body(|i| ins(8 + i % 2, 2, 0, i / 2 % 4 + i % 2 * 4));
     // in turn In of three words by one size, which is From, and In of four words by two, which asks both rules and is Run
     let threes_and_fours = [nine(3, &[]), nine(4, &[])];
     let bounded = [ty(IN, 0, constant(1), constant(7)), ty(IN, 1, constant(7), constant(15))];
@@ -40,6 +43,7 @@ pub fn rows() -> Vec<Row> {
         straight("check, stores to eight Any fields", &types, &[0, 1], &annotation, &stores),
         straight("check, loads and stores, eight mixed fields", &types, &[0, 1], &annotation, &back),
         straight("check, loads and stores, eight run fields", &[any(), eight], &[], &annotation, &back),
+        straight("check, loads and stores, four locked fields of eight", &[any(), weighed], &[], &annotation, &computed),
     ];
     rows.extend(opens());
     rows.extend(edges());

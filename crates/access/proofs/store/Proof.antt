@@ -1,23 +1,27 @@
 -- `access::store` meets its contract.
 use mathlib.Core.Path.{refl, _≡_}
 use mathlib.Core.Bool.{true, not}
+use mathlib.Core.List.{List}
 use Prim.Native.Nat.{ℕ, _*_, _+_, _≤_}
 use native.Mathlib.Omega.{arith}
 use denote.Ref.{now}
 use lib.Dec.{ltb, eqb}
 use lib.ListN.{length}
 use borrow.Author.Needs.{needs}
-use Rattle.model.specs.Question.{_or_, q12}
+use Rattle.model.specs.Question.{_or_, q12, q23}
+use Rattle.model.specs.Table.{tablesOf}
+use Rattle.model.specs.Machine.{toStore}
+use Rattle.model.specs.Check.{permits}
 use Rattle.model.proofs.Logic.{test-false, test-true, answer-of}
 use Rattle.access.proofs.Outcomes.{number-of}
-use Rattle.access.proofs.Fields.{store-other, store-closes, store-holds, part-is, part-length, row-words}
+use Rattle.access.proofs.Fields.{store-locked, store-other, store-closes, store-holds, part-is, part-length, row-words}
 use Rattle.access.proofs.store.Statement.{statement}
 use Rattle.access.proofs.store.Tie as tie
 
--- ---- places: the type's row read, past Q12, and the field put
+-- ---- places: the type's row read, past Q23 and Q12, and the field put
 
 abbrev start : tie.After-row → tie.Start
-start c = c .before .before .before .before .before .before
+start c = c .before .before .before .before .before .before .before .before
 
 abbrev rowed : tie.After-put → tie.After-row
 rowed c = c .before .before .before .before
@@ -28,13 +32,17 @@ row-exists c = start c .pre .3
 abbrev base : tie.After-row → ℕ
 base c = start c .args .s .base
 
+may-store : (c : tie.After-row) (tags : List ℕ)
+    → permits (tablesOf (now (start c .args .types)) tags) toStore (start c .args .x .t) (start c .args .x .c) ≡ true
+may-store c tags = let e = c .before .before .before .before in test-true (e .before .may-store .ensures tags) (e .if1 .left)
+
 may-touch : (c : tie.After-row) → (not (ltb (base c) 256) or eqb (base c) (start c .args .x .v)) ≡ true
-may-touch c = let e = c .before .before in test-true (e .before .may-touch .ensures) (e .if1 .left)
+may-touch c = let e = c .before .before in test-true (e .before .may-touch .ensures) (e .if2 .left)
 
 -- ---- the needs
 
-may-touch-requires : tie.Need-may-touch-requires
-may-touch-requires c κs = search needs
+may-store-requires : tie.Need-may-store-requires
+may-store-requires c κs = search needs
 
 refused-requires : tie.Need-refused-requires
 refused-requires c κs = search needs
@@ -43,7 +51,24 @@ returns : tie.Need-returns
 returns c =
     let t = c .before in
     let n = number-of (c .refused .ensures) in (
-      λ place registers views. store-other _ _ _ _ _ _ _ _ (test-false (t .before .may-touch .ensures) (t .if1 .taken)) _ n _,
+      λ place registers views. store-locked _ _ _ _ _ _ _ _ (test-false (t .before .may-store .ensures _) (t .if1 .taken)) _ n _,
+      answer-of _ q23 n,
+    )
+
+may-touch-requires : tie.Need-may-touch-requires
+may-touch-requires c κs = search needs
+
+refused-requires-2 : tie.Need-refused-requires-2
+refused-requires-2 c κs = search needs
+
+returns-2 : tie.Need-returns-2
+returns-2 c =
+    let t = c .before in
+    let e = t .before .before in
+    let n = number-of (c .refused2 .ensures) in (
+      λ place registers views.
+          store-other _ _ _ _ _ _ _ _ (test-true (e .before .may-store .ensures _) (e .if1 .left))
+          (test-false (t .before .may-touch .ensures) (t .if2 .taken)) _ n _,
       answer-of _ q12 n,
     )
 
@@ -68,27 +93,27 @@ part-put-end c = search needs
 put-requires : tie.Need-put-requires
 put-requires c κs = let r = c .before .before .before in omega (arith, part-length _ _ _ (row-exists r) (r .row .ensures))
 
-returns-2 : tie.Need-returns-2
-returns-2 c =
+returns-3 : tie.Need-returns-3
+returns-3 c =
     let p = c .before in
     let r = rowed p in (
       λ place registers views.
-          store-closes _ _ _ _ _ _ _ _ _ _ _ _ _ _ _ _ _ (may-touch r) _ _ (start r .pre .0) (part-is _ _ _ (r .row .ensures))
-          (p .put .ensures .1 _) _ (p .put .ensures .0) (c .if2 .taken),
+          store-closes _ _ _ _ _ _ _ _ _ _ _ _ _ _ _ _ _ (may-store r _) (may-touch r) _ _ (start r .pre .0) (part-is _ _ _ (r .row .ensures))
+          (p .put .ensures .1 _) _ (p .put .ensures .0) (c .if3 .taken),
       refl,
     )
 
 cast-base : tie.Need-cast-base
 cast-base c = search needs
 
-returns-3 : tie.Need-returns-3
-returns-3 c =
+returns-4 : tie.Need-returns-4
+returns-4 c =
     let e = c .before in
     let p = e .before in
     let r = rowed p in (
       λ place registers views.
-          store-holds _ _ _ _ _ _ _ _ _ _ _ _ _ _ _ _ _ (may-touch r) _ _ (start r .pre .0) (part-is _ _ _ (r .row .ensures))
-          (p .put .ensures .1 _) _ (p .put .ensures .0) (e .if2 .left),
+          store-holds _ _ _ _ _ _ _ _ _ _ _ _ _ _ _ _ _ (may-store r _) (may-touch r) _ _ (start r .pre .0) (part-is _ _ _ (r .row .ensures))
+          (p .put .ensures .1 _) _ (p .put .ensures .0) (e .if3 .left),
       refl,
     )
 
@@ -96,9 +121,12 @@ pub store-spec : {M : Type 1} → statement M
 store-spec =
     tie.close
     (tie.spec
-    may-touch-requires
+    may-store-requires
     refused-requires
     returns
+    may-touch-requires
+    refused-requires-2
+    returns-2
     cast-row
     row-requires
     cast-born
@@ -106,6 +134,6 @@ store-spec =
     part-put-start
     part-put-end
     put-requires
-    returns-2
+    returns-3
     cast-base
-    returns-3)
+    returns-4)

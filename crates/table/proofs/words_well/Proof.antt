@@ -4,18 +4,18 @@ use Prim.Native.Nat.{_≤_, _-_}
 use native.Mathlib.Omega.{arith}
 use Rattle.model.specs.Question.{every}
 use Rattle.model.specs.Table.{wordsOf}
-use Rattle.table.specs.Row.{placeWell}
+use Rattle.table.specs.Row.{rowWell}
 use Rattle.table.proofs.Questions.{test-false, test-true, every-on, every-stops, every-end}
 use Rattle.table.proofs.Answers.{place-is}
 use Rattle.table.proofs.words_well.Statement.{statement}
 use Rattle.table.proofs.words_well.Tie as tie
 
 abbrev Inv-loop : tie.InvT-loop
-Inv-loop table k count n f₀ f =
-    (every 8 0 (placeWell count n (wordsOf table k)) ≡ every (8 - f) f (placeWell count n (wordsOf table k))) × (f ≤ 8)
+Inv-loop table k count n marks f₀ f =
+    (every 8 0 (rowWell count n marks (wordsOf table k)) ≡ every (8 - f) f (rowWell count n marks (wordsOf table k))) × (f ≤ 8)
 
 abbrev μ-loop : tie.MeasureT-loop
-μ-loop table k count n f₀ f = 8 - f
+μ-loop table k count n marks f₀ f = 8 - f
 
 loop-holds : tie.Need-loop-holds Inv-loop μ-loop
 loop-holds c = (refl, omega arith)
@@ -30,7 +30,7 @@ returns : tie.Need-returns Inv-loop μ-loop
 returns c =
     let l = c .before .before .before .before .loop in
     every-stops _ 8 (l .f) _ (l .inv .0) (omega arith)
-    (test-false (c .before .place-well .ensures ∙ place-is _ _ _ _ _ (c .before .before .type-word .ensures)) (c .if1 .taken))
+    (test-false (c .before .place-well .ensures ∙ place-is _ _ _ _ _ _ (c .before .before .type-word .ensures)) (c .if1 .taken))
 
 add-f : tie.Need-add-f Inv-loop μ-loop
 add-f c = omega arith
@@ -42,7 +42,7 @@ loop-again : tie.Need-loop-again Inv-loop μ-loop
 loop-again c =
     let l = c .before .before .before .before .loop in (
       every-on _ 8 (l .f) _ (l .inv .0) (omega arith)
-          (test-true (c .before .place-well .ensures ∙ place-is _ _ _ _ _ (c .before .before .type-word .ensures)) (c .if1 .left)),
+          (test-true (c .before .place-well .ensures ∙ place-is _ _ _ _ _ _ (c .before .before .type-word .ensures)) (c .if1 .left)),
       omega arith,
     )
 

@@ -1,11 +1,11 @@
--- `rows::ends` meets its contract: the rows of the ends of blocks can be told.
+-- `rows::edges` meets its contract: the rows of edges can be told.
 use mathlib.Core.Path.{refl}
 use native.Mathlib.Omega.{arith}
 use lib.Dec.{lit≤}
 use borrow.Author.Needs.{needs}
 use Rattle.output.specs.Digits.{allFrom}
-use Rattle.words.proofs.rows.ends.Statement.{statement}
-use Rattle.words.proofs.rows.ends.Tie as tie
+use Rattle.words.proofs.rows.edges.Statement.{statement}
+use Rattle.words.proofs.rows.edges.Tie as tie
 
 slice-aggregate-said : tie.Need-slice-aggregate-said
 slice-aggregate-said c = search needs
@@ -37,18 +37,8 @@ said-requires-3 c κs = (record { seen = refl; short = lit≤ tt }, omega arith)
 returns-3 : tie.Need-returns-3
 returns-3 c = search needs
 
-slice-aggregate-said-4 : tie.Need-slice-aggregate-said-4
-slice-aggregate-said-4 c = search needs
-
-said-requires-4 : tie.Need-said-requires-4
-unfolding allFrom
-said-requires-4 c κs = (record { seen = refl; short = lit≤ tt }, omega arith)
-
-returns-4 : tie.Need-returns-4
-returns-4 c = search needs
-
-pub ends-spec : {M : Type 1} → statement M
-ends-spec =
+pub edges-spec : {M : Type 1} → statement M
+edges-spec =
     tie.close
     (tie.spec
     slice-aggregate-said
@@ -59,7 +49,4 @@ ends-spec =
     returns-2
     slice-aggregate-said-3
     said-requires-3
-    returns-3
-    slice-aggregate-said-4
-    said-requires-4
-    returns-4)
+    returns-3)
