@@ -18,10 +18,13 @@ use Rattle.access.proofs.Fields.{store-locked, store-other, store-close
 use Rattle.access.proofs.store.Statement.{statement}
 use Rattle.access.proofs.store.Tie as tie
 
--- ---- places: the type's row read, past Q23 and Q12, and the field put
+-- ---- places: past Q23, the type's row read past Q12, and the field put
+
+abbrev permitted : tie.After-row → tie.Else1
+permitted c = c .before .before .before .before
 
 abbrev start : tie.After-row → tie.Start
-start c = c .before .before .before .before .before .before .before .before
+start c = permitted c .before .before .before .before
 
 abbrev rowed : tie.After-put → tie.After-row
 rowed c = c .before .before .before .before
@@ -34,7 +37,7 @@ base c = start c .args .s .base
 
 may-store : (c : tie.After-row) (tags : List ℕ)
     → permits (tablesOf (now (start c .args .types)) tags) toStore (start c .args .x .t) (start c .args .x .c) ≡ true
-may-store c tags = let e = c .before .before .before .before in test-true (e .before .may-store .ensures tags) (e .if1 .left)
+may-store c tags = test-true (permitted c .before .may-store .ensures tags) (permitted c .if1 .left)
 
 may-touch : (c : tie.After-row) → (not (ltb (base c) 256) or eqb (base c) (start c .args .x .v)) ≡ true
 may-touch c = let e = c .before .before in test-true (e .before .may-touch .ensures) (e .if2 .left)
