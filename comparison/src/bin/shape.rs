@@ -148,7 +148,10 @@ fn split(all: &[Instruction]) -> Result<String, String> {
         return Err(format!("no function {name}; expected one of its own: what is rare must not be compiled into each question"));
     }
     if let Some(name) = inside.iter().find(|name| has(name)) {
-        return Err(format!("a function {name}; expected it inside its callers: it is short, and leaves what is rare to {}", rare.join(" and ")));
+        return Err(format!(
+            "a function {name}; expected it inside its callers: it is short, and leaves what is rare to {}",
+            rare.join(" and ")
+        ));
     }
     Ok(format!("{} are functions of their own, {} are none", rare.join(" and "), inside.join(", ")))
 }

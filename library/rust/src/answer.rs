@@ -119,12 +119,7 @@ const ROWS: [Row; 25] = [
     ),
     row(Answer::Field, 20, "field", "a word of a record does not meet its field's type"),
     row(Answer::Register, 21, "register", "a register does not meet the annotation of the block to start at"),
-    row(
-        Answer::LockedField,
-        23,
-        "locked field",
-        "a store goes to a field that is locked: routines load it, and none may write it",
-    ),
+    row(Answer::LockedField, 23, "locked field", "a store goes to a field that is locked: routines load it, and none may write it"),
     row(Answer::Paused, 40, "paused", "the budget of blocks is finished, and the routine has not halted"),
 ];
 
