@@ -1,5 +1,5 @@
 -- What the answer of each call says: demands 1 and 2 of the definitions, of the calls themselves.
-use mathlib.Core.Path.{_≡_, refl, sym, ap, _∙_}
+use mathlib.Core.Path.{_≡_, sym, ap, _∙_}
 use mathlib.Core.List.{List}
 use Prim.Native.Nat.{ℕ}
 use Rattle.model.specs.declared.RunAnswer.{RunAnswer}

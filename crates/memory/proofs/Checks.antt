@@ -1,7 +1,7 @@
 -- The table of owners of a passed layout, one law for each answer to Q20 and Q21, and the questions of the two checks in their order.
 use mathlib.Core.Path.{_≡_, refl, sym, ap, _∙_}
 use mathlib.Core.Bool.{true}
-use mathlib.Core.List.{List, [], _∷_}
+use mathlib.Core.List.{List, _∷_}
 use Prim.Native.Nat.{ℕ, zero, suc, _+_, _-_, _*_, _/_, _≤_, _<_}
 use native.Mathlib.Numerals.{add-one}
 use native.Mathlib.Omega.{arith}
@@ -13,7 +13,7 @@ use Rattle.model.specs.Table.{rows, headOf, wordsOf, Tables, tablesOf, wellMade
 use Rattle.model.specs.Machine.{Ready}
 use Rattle.model.specs.MemoryCheck.{recordsAsk, registerAsk, layoutAsk, memoryAsk, memoryCheck, entryAsk, entryCheck, routineAsk, entryQuestions}
 use Rattle.model.specs.MemoryCheck.{memoryQuestions, routineQuestions}
-use Rattle.model.proofs.Logic.{ask-ok, ok-verdict, all-passed}
+use Rattle.model.proofs.Logic.{ask-ok, all-passed}
 use Rattle.table.proofs.Questions.{ComesTo}
 use Rattle.table.proofs.Laws.{annotation-well-made}
 use Rattle.layout.proofs.Layouts.{RowAt, rows-from}

@@ -1,13 +1,12 @@
 -- The entry of a block, and its edges: where they meet the next block's annotation, the registers do.
-use mathlib.Core.Path.{_≡_, refl, sym, ap, subst, _∙_}
-use mathlib.Core.Logic.{_⊎_, inl, inr}
-use mathlib.Core.Bool.{Bool, true, false, not, false≢true}
-use mathlib.Core.List.{List, [], _∷_, map}
-use Prim.Native.Nat.{ℕ, zero, suc, _+_, _-_, _*_, _/_, _%_, _^_, _≤_, _<_}
+use mathlib.Core.Path.{_≡_, refl, sym, ap, _∙_}
+use mathlib.Core.Bool.{true, false, false≢true}
+use mathlib.Core.List.{List, map}
+use Prim.Native.Nat.{ℕ, zero, suc, _+_, _-_, _^_, _≤_, _<_}
 use native.Mathlib.Omega.{arith}
 use native.Mathlib.Nat.{zero-add}
-use lib.Dec.{ltb, leb, eqb}
-use lib.ListN.{length, getD, set, length-map}
+use lib.Dec.{ltb, eqb}
+use lib.ListN.{length, getD, length-map}
 use lib.Seq.{ext-getD}
 use borrow.Author.Tests.{eqb-true, eqb-false, ltb-true, ltb-false}
 use Rattle.model.specs.Question.{_and_, pick, Question, Refusal, ok}
@@ -19,15 +18,15 @@ use Rattle.model.specs.Machine.{End, halt, jump, ifEqual, ifLess, reg, N
 use Rattle.model.specs.Values.{Values, birthplace, typed, knownEqual}
 use Rattle.model.specs.Reading.{Reading, upFrom, entry, learned, rekinded, notZero, below, notBelow, taken, untaken}
 use Rattle.model.specs.Check.{valueIn, edgeMeets, readEdges}
-use Rattle.model.proofs.Logic.{byTest, byEqual, byLess, either, and-true, ask-ok}
+use Rattle.model.proofs.Logic.{byTest, byLess, either, and-true, ask-ok}
 use Rattle.model.proofs.Lists.{set-every, getD-map, getD-past, zeros-at, upFrom-at, length-upFrom}
 use Rattle.model.proofs.RulesDecide.{equal-known}
 use Rattle.model.proofs.Tidy.{Tidy, entry-word}
-use Rattle.model.proofs.Mean.{kinded, TyBelow, Rank, Mean, mean, mean-rename}
+use Rattle.model.proofs.Mean.{kinded, TyBelow, Mean, mean, mean-rename}
 use Rattle.model.proofs.Lawful.{Lawful, Tabled}
 use Rattle.model.proofs.TableLaws.{Annotated}
 use Rattle.model.proofs.Decode.{EndFine}
-use Rattle.model.proofs.Invariant.{ValuesOk, Shut, Opened, Kept, Invariant}
+use Rattle.model.proofs.Invariant.{ValuesOk, Kept, Invariant}
 use Rattle.model.proofs.FitsSound.{equal-sound, row-sound}
 use Rattle.model.proofs.StepSound.{reg-is}
 

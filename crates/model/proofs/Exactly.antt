@@ -1,7 +1,7 @@
 -- A routine is accepted exactly when at every instruction no question has a no; the verdict otherwise names the first.
 use mathlib.Core.Path.{_≡_, refl, sym, ap, _∙_}
-use mathlib.Core.Logic.{_⊎_, inl, inr, _↔_}
-use mathlib.Core.List.{List, [], _∷_}
+use mathlib.Core.Logic.{_↔_}
+use mathlib.Core.List.{List}
 use Prim.Native.Nat.{ℕ, zero, suc, _+_, _≤_, _<_}
 use native.Mathlib.Omega.{arith}
 use lib.ListN.{length}
@@ -10,11 +10,9 @@ use Rattle.model.specs.Table.{Tables, tablesOf, Routine, routineOf, type
 use Rattle.model.specs.Table.{rows, tableQuestions, tablesAsk}
 use Rattle.model.specs.Reading.{Reading, entry}
 use Rattle.model.specs.Check.{readAt, readOn, blockAsk, judge, readingAt, checkAsk, check}
-use Rattle.model.proofs.Logic.{byEqual, either, ok-then, passed-then, firstNo-ok, ok-firstNo, firstNo-refused}
-use Rattle.model.proofs.Logic.{all-passed, passed-all, first-refused}
-use Rattle.model.proofs.Logic.{not-ok, refused-same, verdict-ok, ok-verdict, verdict-refused, refused-then, refused-first, no-firstNo, no-then}
-use Rattle.model.proofs.Logic.{in-order-append}
-use Rattle.model.proofs.TableRules.{types-pass, pass-types, blocks-pass, pass-blocks, annotations-exactly}
+use Rattle.model.proofs.Logic.{byEqual, ok-then, passed-then, firstNo-ok, ok-firstNo, firstNo-refused}
+use Rattle.model.proofs.Logic.{all-passed, passed-all}
+use Rattle.model.proofs.Logic.{not-ok, refused-same, verdict-ok, ok-verdict}
 use Rattle.model.proofs.BlockSound.{passed-block}
 
 module _ (𝒯 : Tables) (P : Routine) where

@@ -1,7 +1,7 @@
 -- The assumptions of demand 3 can be met: two routines over two plots with locked weights, one of which stores, take turns.
 use mathlib.Core.Path.{_≡_, refl}
 use mathlib.Core.List.{List, [], _∷_, _++_}
-use Prim.Native.Nat.{ℕ, zero, suc, _<_}
+use Prim.Native.Nat.{ℕ, zero, suc}
 use native.Mathlib.Omega.{arith}
 use lib.ListN.{getD}
 use Rattle.model.specs.Table.{tablesOf, codeOf}

@@ -1,6 +1,6 @@
 -- The mark of a locked field stands apart from the rest of a type word.
 use mathlib.Core.Path.{_≡_}
-use Prim.Native.Nat.{ℕ, _+_, _/_, _%_, _^_, _<_}
+use Prim.Native.Nat.{ℕ, _^_, _<_}
 use native.Mathlib.Omega.{arith}
 use borrow.Author.Tests.{le-leb, lt-leb}
 use Rattle.model.specs.Word.{kindOf, recordOf, firstOf, secondOf}

@@ -1,8 +1,8 @@
 -- A run of an accepted routine, over any allocation relation with the two laws: nothing faults, every access is to the field that the
 -- check says, and every block end leaves registers and memory in type.
-use mathlib.Core.Path.{_≡_, refl, sym, ap, subst, _∙_}
+use mathlib.Core.Path.{_≡_, sym, _∙_}
 use mathlib.Core.List.{List}
-use Prim.Native.Nat.{ℕ, suc, _^_, _<_}
+use Prim.Native.Nat.{ℕ, _^_, _<_}
 use lib.ListN.{length}
 use Rattle.model.specs.Question.{Question, ok}
 use Rattle.model.specs.Table.{Tables, Routine}

@@ -1,11 +1,10 @@
 -- Demand 3 holds: every list of calls, from checked memory, accepted routines and checked registers, is safe.
-use mathlib.Core.Path.{_≡_, refl, sym, ap, subst, _∙_}
-use mathlib.Core.Bool.{Bool, true, false}
+use mathlib.Core.Path.{_≡_, refl, ap}
 use mathlib.Core.List.{List, [], _∷_}
-use Prim.Native.Nat.{ℕ, zero, suc, _+_, _^_, _≤_, _<_}
+use Prim.Native.Nat.{ℕ, _^_, _≤_, _<_}
 use native.Mathlib.Omega.{arith}
 use lib.Dec.{ltb, eqb}
-use lib.ListN.{length, getD}
+use lib.ListN.{length}
 use borrow.Author.Tests.{ltb-true, eqb-true}
 use Rattle.model.specs.Question.{pick, ok}
 use Rattle.model.specs.Table.{Tables, tablesOf, Routine, routineOf, Code, rows}
@@ -16,9 +15,7 @@ use Rattle.model.specs.Turns.{Task, Standing, waiting, done, World, Call
 use Rattle.model.specs.Turns.{standingBy, turnRun, turned, afterCall, atStart, Allowed}
 use Rattle.model.specs.Exactness.{MemoryPasses}
 use Rattle.model.specs.Safety.{Checked, AllFit, InField, Ends, pauses, halting, TurnSafe, CallSafe, Safe, Demand3}
-use Rattle.model.proofs.Logic.{byTest, byEqual, firstNo-ok, ok-firstNo}
-use Rattle.model.proofs.Lawful.{Lawful, Tabled}
-use Rattle.model.proofs.Invariant.{Kept}
+use Rattle.model.proofs.Logic.{byTest, firstNo-ok}
 use Rattle.model.proofs.EdgeSound.{Stands, MemoryFit}
 use Rattle.model.proofs.BlockSound.{Field}
 use Rattle.model.proofs.MachineLaws.{Last, pausing, halting as last-halting, faulting}

@@ -1,13 +1,13 @@
 -- What passed table questions say: sizes, names, block lengths, and the laws of a list of allocations.
-use mathlib.Core.Path.{_≡_, refl, sym, ap, subst, _∙_}
+use mathlib.Core.Path.{_≡_, refl, sym, ap, _∙_}
 use mathlib.Core.Logic.{_⊎_, inl, inr}
-use mathlib.Core.Bool.{Bool, true, false, false≢true}
+use mathlib.Core.Bool.{true, false, false≢true}
 use mathlib.Core.List.{List, [], _∷_}
-use Prim.Native.Nat.{ℕ, zero, suc, _+_, _-_, _*_, _/_, _%_, _^_, _≤_, _<_, min}
+use Prim.Native.Nat.{ℕ, zero, suc, _+_, _-_, _*_, _%_, _≤_, _<_}
 use native.Mathlib.Omega.{arith}
 use lib.Dec.{ltb, leb, eqb}
 use lib.ListN.{length, getD, take, drop, length-take, length-drop}
-use borrow.Author.Tests.{ltb-true, ltb-false, leb-true, le-leb, eqb-true, le-ltb, lt-ltb}
+use borrow.Author.Tests.{ltb-true, leb-true, le-leb, eqb-true, le-ltb, lt-ltb}
 use Rattle.model.specs.Question.{_and_, _or_, pick, ok}
 use Rattle.model.specs.Word.{kindOf, recordOf, firstOf, secondOf}
 use Rattle.model.specs.Types.{depOf, ofKind, typeOf}
@@ -15,7 +15,7 @@ use Rattle.model.specs.Table.{Tables, fieldOf, startOf, routineOf, usesF
 use Rattle.model.specs.Table.{typesAsk, blocksAsk, lengthsAsk, annotationWell, annotationAsk, annotationsAsk, memoryLengthAsk, Code, headOf}
 use Rattle.model.specs.Table.{typesQuestions, tablesOf, Routine, typeLengthsAsk, rows, rowOf}
 use Rattle.model.specs.Allocation.{isAllocated, Allocated, laid, rowsAsk, allocationsAsk}
-use Rattle.model.proofs.Logic.{byTest, byEqual, byLess, either, and-true, or-true, every-true, ask-ok, passed-then, firstNo-ok, not-ok, all-passed}
+use Rattle.model.proofs.Logic.{byTest, byEqual, byLess, either, and-true, or-true, every-true, ask-ok, firstNo-ok, all-passed}
 use Rattle.model.proofs.Lists.{getD-past}
 use Rattle.model.proofs.Rows.{eight-words}
 use Rattle.model.proofs.Mean.{DepBelow, TyBelow}

@@ -6,11 +6,11 @@ use mathlib.Core.List.{List, [], _∷_, _++_}
 use Prim.Native.Nat.{ℕ, _+_, _*_, _%_, _≤_, _<_}
 use lib.ListN.{length, getD}
 use Rattle.model.specs.declared.RunAnswer.{RunAnswer}
-use Rattle.model.specs.Question.{q20, q21, Refusal, refusal, refusing, Outcome, ok, refused, then, AllPassed, FirstRefused}
+use Rattle.model.specs.Question.{q20, q21, Refusal, refusal, refusing, Outcome, AllPassed, FirstRefused}
 use Rattle.model.specs.Word.{lockedOf}
 use Rattle.model.specs.Types.{typeOf}
 use Rattle.model.specs.Table.{typesMost, tagsMost, blocksMost, codeMost, memoryMost, fieldsMost, typeWords, lengthMost, registerCount, rows}
-use Rattle.model.specs.Table.{headOf, wordsOf, Tables, tablesOf, fieldOf, Code, Routine, routineOf, startOf, wellMade, typeLengthsAsk}
+use Rattle.model.specs.Table.{headOf, wordsOf, Tables, tablesOf, fieldOf, Code, routineOf, startOf, wellMade, typeLengthsAsk}
 use Rattle.model.specs.Table.{codeLengthsAsk, typesQuestions, lengthsAsk, annotationsAsk, memoryLengthAsk}
 use Rattle.model.specs.Meaning.{Meets, RecordMeets, RegistersMeet}
 use Rattle.model.specs.Allocation.{Allocated, startAt, typeAt, pairs, AllLaid, FirstUnlaid}

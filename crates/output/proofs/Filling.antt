@@ -3,7 +3,7 @@ use mathlib.Core.Path.{_≡_, refl, sym, ap, _∙_}
 use mathlib.Core.List.{List, [], _∷_, _++_, append-assoc, append-nil}
 use Prim.Native.Nat.{ℕ, zero, suc, _+_, _-_, _/_, _%_, _≤_, _<_}
 use native.Mathlib.Omega.{arith}
-use lib.ListN.{length, take, drop, set, getD, length-set}
+use lib.ListN.{length, take, drop, set, length-set}
 use lib.Seq.{take-add, take-set-le, drop-set-lt, drop-cons, getD-set-same}
 use Rattle.protocol.specs.Text.{lastDigit}
 use Rattle.output.specs.Appended.{Appended}

@@ -2,7 +2,7 @@
 use mathlib.Core.Path.{_≡_, refl, sym, _∙_}
 use mathlib.Core.Logic.{⊎-elim}
 use mathlib.Core.Bool.{Bool, true, false}
-use mathlib.Core.List.{List, [], _∷_}
+use mathlib.Core.List.{List}
 use Prim.Native.Nat.{ℕ, _+_, _*_, _%_, _-_, _<_, _≤_}
 use native.Mathlib.Nat.{eq-or-lt-of-le, sub-self, sub-zero}
 use native.Mathlib.Numerals.{add-one}
@@ -11,7 +11,7 @@ use lib.Dec.{ltb, leb, eqb}
 use lib.ListN.{length, drop, getD, set, length-set}
 use lib.Seq.{getD-set-same, getD-set-other}
 use borrow.Author.Tests.{lt-ltb, le-ltb, le-leb, lt-leb, eq-eqb, ne-eqb}
-use Rattle.model.specs.Question.{_and_, _or_, pick, every, q2, q3, q4, q5, q6, refusal, Outcome, ok, refused, passed, refusing, verdictOf, provided}
+use Rattle.model.specs.Question.{_and_, _or_, every, q2, q3, q4, q5, q6, refusal, Outcome, ok, refused, passed, refusing, verdictOf, provided}
 use Rattle.model.specs.Word.{kindOf, lockedOf, recordOf, firstOf, secondOf}
 use Rattle.model.specs.Table.{wholeRows, wellMade, headOf, wordsOf, rows, tablesOf, countAsk, fieldWell, fieldsAsk, tagAsk, typesAsk, startOf}
 use Rattle.model.specs.Table.{blocksAsk, lengthsAsk, annotationWell, annotationAsk, typesQuestions}

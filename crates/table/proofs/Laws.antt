@@ -15,7 +15,7 @@ use Rattle.model.specs.Word.{kindOf, recordOf, firstOf, secondOf}
 use Rattle.model.specs.Table.{rowOf, rows, headOf, wordsOf, startOf, tablesOf, routineOf, wholeRows, typeLengthsAsk, codeLengthsAsk, countAsk}
 use Rattle.model.specs.Table.{fieldWell, fieldsAsk, tagAsk, typesAsk, usesRecord, usesFirst, usesSecond, dependency, wellMade, blocksAsk, lengthsAsk}
 use Rattle.model.specs.Table.{annotationWell, annotationAsk, annotationsAsk, startAsk, typesQuestions, Code}
-use Rattle.model.proofs.Logic.{either, byEqual, and-true, or-true, ask-ok, passed-then, every-true, firstNo-ok, all-passed}
+use Rattle.model.proofs.Logic.{either, byEqual, and-true, or-true, ask-ok, every-true, firstNo-ok, all-passed}
 use Rattle.table.proofs.Questions.{no-refusal}
 
 -- ---- rows

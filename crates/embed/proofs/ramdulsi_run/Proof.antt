@@ -1,5 +1,5 @@
 -- `embed::ramdulsi_run` meets its contract.
-use mathlib.Core.Path.{_≡_, ap, _∙_}
+use mathlib.Core.Path.{ap, _∙_}
 use borrow.Author.Needs.{needs}
 use Rattle.embed.specs.Lent.{endedAt}
 use Rattle.embed.proofs.ramdulsi_run.Statement.{statement}

@@ -1,9 +1,8 @@
 -- `copy` appends the bytes: after each turn those read so far stand after what was held.
-use mathlib.Core.Path.{_≡_, sym, ap, _∙_}
-use mathlib.Core.List.{List}
-use Prim.Native.Nat.{ℕ, _+_, _-_, _≤_}
+use mathlib.Core.Path.{_≡_}
+use Prim.Native.Nat.{_+_, _-_, _≤_}
 use native.Mathlib.Omega.{arith}
-use lib.ListN.{length, take, getD, length-set}
+use lib.ListN.{length, take, length-set}
 use Rattle.output.specs.Appended.{Appended}
 use Rattle.output.proofs.Appending.{nothing, next-byte, all-bytes, same-end}
 use Rattle.output.proofs.copy.Statement.{statement}

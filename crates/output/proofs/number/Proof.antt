@@ -1,6 +1,5 @@
 -- `number` appends a number, which has no more than twenty digits.
 use native.Mathlib.Omega.{arith}
-use borrow.Author.Needs.{needs}
 use Rattle.output.proofs.Decimals.{decimal-length}
 use Rattle.output.proofs.number.Statement.{statement}
 use Rattle.output.proofs.number.Tie as tie

@@ -1,5 +1,4 @@
 -- `words` appends the fields of a list: after each turn those of the words read so far.
-use mathlib.Core.Path.{_≡_}
 use Prim.Native.Nat.{_+_, _*_, _-_, _≤_}
 use native.Mathlib.Omega.{arith}
 use lib.ListN.{length, take}
