@@ -3,7 +3,7 @@
 pub mod fast;
 
 use ramdulsi as proved;
-use ramdulsi_reference::{Loader, RunAnswer, Verdict};
+use ramdulsi_reference::{CheckAnswer, Loader, RunAnswer, Verdict};
 
 /// The proved library.
 pub struct Proved;
@@ -13,8 +13,9 @@ fn verdict(v: proved::Verdict) -> Verdict {
 }
 
 impl Loader for Proved {
-    fn check(types: &[u32], tags: &[u32], blocks: &[u32], code: &[u32]) -> Verdict {
-        verdict(proved::check(types, tags, blocks, code))
+    fn check(types: &[u32], tags: &[u32], blocks: &[u32], code: &[u32]) -> CheckAnswer {
+        let a = proved::check(types, tags, blocks, code);
+        CheckAnswer { number: a.number, first: a.first, second: a.second, asked: a.asked }
     }
 
     fn memory_check(types: &[u32], tags: &[u32], allocations: &[u32], memory: &[u32]) -> Verdict {

@@ -1,5 +1,5 @@
-/* Each answer of each call with its place, as the header states them. library/c/places.out has them as written by hand. Tables of no words
- * are handed in as null pointers.
+/* Each answer of each call with its place, as the header states them, and of a routine's check the number of fit questions.
+ * library/c/places.out has them as written by hand. Tables of no words are handed in as null pointers.
  */
 #include <inttypes.h>
 #include <stdio.h>
@@ -57,10 +57,10 @@ static void show(const char *what, uint32_t number, uint32_t first, uint32_t sec
 
 static void check(const char *what, struct given g)
 {
-    uint32_t place[2] = {99, 99};
-    uint32_t number = ramdulsi_check(TABLE(types), TABLE(tags), TABLE(blocks), TABLE(code), place);
-    printf("check, ");
-    show(what, number, place[0], place[1]);
+    uint32_t verdict[3] = {99, 99, 99};
+    uint32_t number = ramdulsi_check(TABLE(types), TABLE(tags), TABLE(blocks), TABLE(code), verdict);
+    printf("check, %" PRIu32 " asked, ", verdict[2]);
+    show(what, number, verdict[0], verdict[1]);
 }
 
 static void memory(const char *what, struct given g)
@@ -145,10 +145,16 @@ static void over_code(one_call *call)
     WITH("a load in an open record through another value",
          (g.blocks[ROW + 6] = ramdulsi_type_ref(1), g.code[1] = ramdulsi_code_store(0, 2, 1), g.code[2] = ramdulsi_code_load(3, 5, 1),
           g.blocks[6] = ramdulsi_type_ref(1)));
+    WITH("a store in an open record through another value",
+         (g.blocks[ROW + 6] = ramdulsi_type_ref(1), g.code[1] = ramdulsi_code_store(0, 2, 1), g.code[2] = ramdulsi_code_store(3, 5, 1),
+          g.blocks[6] = ramdulsi_type_ref(1)));
     WITH("a record open at the end", g.code[2] = ramdulsi_code_store(0, 2, 1));
     WITH("a taken edge that asks for more", g.blocks[2 * ROW + 1] = ramdulsi_type_ref(1));
+    WITH("a branch whose taken edge asks for more",
+         (g.blocks[2 * ROW + 1] = ramdulsi_type_ref(1), g.code[3] = ramdulsi_code_if_equal(1, 0, 2)));
     WITH("an untaken edge that asks for more",
          (g.blocks[2 * ROW + 1] = ramdulsi_type_ref(1), g.code[3] = ramdulsi_code_if_equal(1, 0, 1)));
+    WITH("a branch whose edges are both met", g.code[3] = ramdulsi_code_if_equal(1, 0, 1));
 }
 
 static void runs(void)

@@ -44,8 +44,8 @@ static void fill(void)
 
 static void *check(void *given)
 {
-    uint32_t place[2];
-    *(uint32_t *)given = ramdulsi_check(ROWS(types), WORDS(tags), ROWS(blocks), WORDS(code), place);
+    uint32_t verdict[3];
+    *(uint32_t *)given = ramdulsi_check(ROWS(types), WORDS(tags), ROWS(blocks), WORDS(code), verdict);
     return NULL;
 }
 

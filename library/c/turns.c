@@ -1,4 +1,4 @@
-/* Loads a correction and a ranking, checks them, and lets them take turns over two plots, block by block. */
+/* Checks three routines, queues them by what their checks cost, and lets them take turns over two plots, block by block. */
 #include <inttypes.h>
 #include <stdio.h>
 #include <stdlib.h>
@@ -43,17 +43,27 @@ static void lay_out(void)
 
 /* ---- the routines */
 
-/* A routine with room for its tables, and where it stands between its turns. */
+/* A routine with room for its tables, what its check cost, and where it stands between its turns. */
 struct routine {
     const char *name;
     uint32_t blocks[4][RAMDULSI_LIMIT_ROW_WORDS];
     uint32_t code[16];
-    size_t code_words;
+    size_t blocks_words, code_words;
+    uint32_t fit_questions;
     uint32_t block, registers[8], number;
 };
 
-/* Both have four blocks: the plot is looked at; it is not for this routine; its pointer is looked at; it is worked on. */
-enum { START, PASS_OVER, POINTED, WORK };
+#define TABLES(r) (r)->blocks[0], (r)->blocks_words, (r)->code, (r)->code_words
+
+static void keep(struct routine *r, uint32_t blocks, const uint32_t *code, size_t code_words)
+{
+    r->blocks_words = blocks * RAMDULSI_LIMIT_ROW_WORDS;
+    r->code_words = code_words;
+    memcpy(r->code, code, code_words * sizeof(code[0]));
+}
+
+/* Correction and ranking have four blocks: the plot is looked at; it is not for this routine; its pointer is looked at; it is worked on. */
+enum { START, PASS_OVER, POINTED, WORK, BLOCKS };
 
 /* r1 is the plot, r3 its pointer, r4 the corrected record. */
 static void write_correction(struct routine *r)
@@ -88,8 +98,7 @@ static void write_correction(struct routine *r)
     ramdulsi_row_of_block(r->blocks[PASS_OVER], 1, nothing);
     ramdulsi_row_of_block(r->blocks[POINTED], 1, pointed);
     ramdulsi_row_of_block(r->blocks[WORK], 11, work);
-    memcpy(r->code, code, sizeof(code));
-    r->code_words = sizeof(code) / sizeof(code[0]);
+    keep(r, BLOCKS, WORDS(code));
 }
 
 /* r1 is the plot, r3 its pointer; r4 gets the weight. */
@@ -116,8 +125,17 @@ static void write_ranking(struct routine *r)
     ramdulsi_row_of_block(r->blocks[PASS_OVER], 1, nothing);
     ramdulsi_row_of_block(r->blocks[POINTED], 1, pointed);
     ramdulsi_row_of_block(r->blocks[WORK], 2, work);
-    memcpy(r->code, code, sizeof(code));
-    r->code_words = sizeof(code) / sizeof(code[0]);
+    keep(r, BLOCKS, WORDS(code));
+}
+
+/* r1 is the plot, which loses its pointer: that may be 0 at any stage. */
+static void write_withdrawal(struct routine *r)
+{
+    const uint32_t any = ramdulsi_type_any();
+    const uint32_t at_start[8] = {any, ramdulsi_type_ref(PLOT), any, any, any, any, any, any};
+    const uint32_t code[] = {ramdulsi_code_constant(2, 0), ramdulsi_code_store(2, 1, POINTER), ramdulsi_code_halt()};
+    ramdulsi_row_of_block(r->blocks[START], 3, at_start);
+    keep(r, 1, WORDS(code));
 }
 
 /* ---- checks and turns */
@@ -130,10 +148,30 @@ static void must(const char *what, const char *name, uint32_t number, const uint
     }
 }
 
-static void check(const struct routine *r)
+static void check(struct routine *r)
 {
-    uint32_t place[2];
-    must("check of the ", r->name, ramdulsi_check(ROWS(types), WORDS(tags), ROWS(r->blocks), r->code, r->code_words, place), place);
+    uint32_t verdict[3];
+    must("check of the ", r->name, ramdulsi_check(ROWS(types), WORDS(tags), TABLES(r), verdict), verdict);
+    r->fit_questions = verdict[2];
+}
+
+/* Cheapest first. By name where two cost the same, so that the order is one on every machine. */
+static int by_cost(const void *left, const void *right)
+{
+    const struct routine *a = *(struct routine *const *)left, *b = *(struct routine *const *)right;
+    if (a->fit_questions != b->fit_questions) {
+        return a->fit_questions < b->fit_questions ? -1 : 1;
+    }
+    return strcmp(a->name, b->name);
+}
+
+/* The order for every later loading, when the routines are checked again: no cheap one waits for a costly one, so most are ready soon. */
+static void order(struct routine **queue, size_t count)
+{
+    qsort(queue, count, sizeof(queue[0]), by_cost);
+    for (size_t k = 0; k < count; k++) {
+        printf("queue: %s, %" PRIu32 " fit questions\n", queue[k]->name, queue[k]->fit_questions);
+    }
 }
 
 static void check_memory(const char *what)
@@ -145,44 +183,57 @@ static void check_memory(const char *what)
 static void check_entry(const struct routine *r)
 {
     uint32_t place[2];
-    uint32_t number = ramdulsi_entry_check(ROWS(types), WORDS(tags), ROWS(allocations), WORDS(memory), ROWS(r->blocks), r->code,
-                                           r->code_words, r->block, r->registers, place);
+    uint32_t number = ramdulsi_entry_check(ROWS(types), WORDS(tags), ROWS(allocations), WORDS(memory), TABLES(r), r->block, r->registers,
+                                           place);
     must("entry check of the ", r->name, number, place);
 }
 
-/* A turn of one block. A halted routine gets none. */
-static void turn(struct routine *r)
+/* A turn of one block; whether the routine goes on. A halted routine gets none. */
+static int turn(struct routine *r)
 {
     uint32_t answer[4];
     if (r->number != RAMDULSI_ANSWER_PAUSED) {
-        return;
+        return 0;
     }
-    r->number = ramdulsi_run(ROWS(r->blocks), r->code, r->code_words, WORDS(memory), r->block, r->registers, 1, answer);
+    r->number = ramdulsi_run(TABLES(r), WORDS(memory), r->block, r->registers, 1, answer);
     r->block = answer[0];
     printf("%s: %" PRIu32 " at block %" PRIu32 ", index %" PRIu32 "\n", r->name, r->number, answer[0], answer[1]);
+    return r->number == RAMDULSI_ANSWER_PAUSED;
 }
 
 int main(void)
 {
     struct routine correction = {.name = "correction", .block = START, .number = RAMDULSI_ANSWER_PAUSED};
     struct routine ranking = {.name = "ranking", .block = START, .number = RAMDULSI_ANSWER_PAUSED};
+    struct routine withdrawal = {.name = "withdrawal", .block = START, .number = RAMDULSI_ANSWER_PAUSED};
+    struct routine *queue[] = {&correction, &ranking, &withdrawal};
+    const size_t count = sizeof(queue) / sizeof(queue[0]);
+    int going;
     lay_out();
     write_correction(&correction);
     write_ranking(&ranking);
+    write_withdrawal(&withdrawal);
     correction.registers[1] = SECOND_PLOT;
     correction.registers[4] = SECOND_CORRECTED;
     ranking.registers[1] = SECOND_PLOT;
+    withdrawal.registers[1] = FIRST_PLOT;
 
-    check(&correction);
-    check(&ranking);
-    check_memory("memory check");
-    check_entry(&correction);
-    check_entry(&ranking);
-    while (correction.number == RAMDULSI_ANSWER_PAUSED || ranking.number == RAMDULSI_ANSWER_PAUSED) {
-        turn(&correction);
-        turn(&ranking);
+    for (size_t k = 0; k < count; k++) {
+        check(queue[k]);
     }
+    order(queue, count);
+    check_memory("memory check");
+    for (size_t k = 0; k < count; k++) {
+        check_entry(queue[k]);
+    }
+    do {
+        going = 0;
+        for (size_t k = 0; k < count; k++) {
+            going += turn(queue[k]);
+        }
+    } while (going > 0);
     check_memory("memory check after the turns");
+    printf("first plot: stage %" PRIu32 ", pointer %" PRIu32 "\n", memory[FIRST_PLOT + STAGE], memory[FIRST_PLOT + POINTER]);
     printf("second plot: stage %" PRIu32 ", weight %" PRIu32 "\n", memory[SECOND_PLOT + STAGE], memory[memory[SECOND_PLOT + POINTER]]);
     return 0;
 }

@@ -8,9 +8,10 @@
  *   Lengths    Each argument that ends in _words is a number of words, not of rows: types_words is 9 times the number of types,
  *              blocks_words 9 times the number of blocks, allocations_words 2 times the number of records.
  *   Pointers   A table's pointer (memory is one) may be null where its number of words is 0; the call answers as for any table of that
- *              length. The pointers place, answer and registers must not be null, and have the words that the call's comment names.
- *              Every other pointer is to as many words as the number beside it says, on the boundary of a uint32_t.
- *   Overlap    Words that a call writes (a run's memory and registers, place, answer) must not be those behind another of its pointers.
+ *              length. The pointers verdict, place, answer and registers must not be null, and have the words that the call's comment
+ *              names. Every other pointer is to as many words as the number beside it says, on the boundary of a uint32_t.
+ *   Overlap    Words that a call writes (a run's memory and registers, verdict, place, answer) must not be those behind another of its
+ *              pointers.
  *   Stack      A call needs RAMDULSI_STACK or RAMDULSI_STACK_CHECKING_MEMORY bytes, the caller's own frames beside them.
  *   Threads    No call has state, so calls on different memory may be made at the same time.
  *   Budgets    A routine may go round for ever, and a run ends only by a halt, a refusal or its budget: such a routine with a budget of
@@ -58,9 +59,9 @@ extern "C" {
 #endif
 
 /* The version of this header, and of the archive that it comes with. */
-#define RAMDULSI_VERSION "0.5.0"
+#define RAMDULSI_VERSION "0.6.0"
 #define RAMDULSI_VERSION_MAJOR 0
-#define RAMDULSI_VERSION_MINOR 5
+#define RAMDULSI_VERSION_MINOR 6
 #define RAMDULSI_VERSION_PATCH 0
 
 /* Bytes of stack that a thread needs for ramdulsi_check and ramdulsi_run, and for ramdulsi_memory_check and ramdulsi_entry_check, which
@@ -419,12 +420,13 @@ static inline uint32_t ramdulsi_code_if_less(uint32_t a, uint32_t b, uint32_t bl
  * fields and registers are counted from 0; a code index is counted over the whole code.
  */
 
-/* Whether a routine is accepted.
- *   types   1 to 64 rows of 9 words: field count, then 8 type words, bit 31 set in those of locked fields
- *   tags    0 to 64 words: the record type of each tag
- *   blocks  1 to 256 rows of 9 words: length, then the type words of r0 to r7
- *   code    1 to 8,192 instruction words
- *   place   2 words, filled with the place of the answer:
+/* Whether a routine is accepted, and what it took to check it.
+ *   types    1 to 64 rows of 9 words: field count, then 8 type words, bit 31 set in those of locked fields
+ *   tags     0 to 64 words: the record type of each tag
+ *   blocks   1 to 256 rows of 9 words: length, then the type words of r0 to r7
+ *   code     1 to 8,192 instruction words
+ *   verdict  3 words: two for the place of the answer, and the number of fit questions. Since 0.6.0 there are three: a caller that lends
+ *            two must be changed, and a compiler need not say so. The place:
  *     1         table (0 types, 1 tags, 2 blocks, 3 code), 0
  *     2, 3      row of types, 0
  *     4         tag, 0
@@ -433,10 +435,16 @@ static inline uint32_t ramdulsi_code_if_less(uint32_t a, uint32_t b, uint32_t bl
  *     7 to 15, 23
  *               block, code index; the first instruction with a no has the answer, whatever its number; 23 is asked after 11 and before 12
  *     0         0, 0: accepted
+ * The third word of the verdict is what the check costs, whether it accepts or refuses, in fit questions: does a value fit a type? A store
+ * that is not refused puts one for each field of its record, whether the record is whole after it or not. An edge of a jump or branch,
+ * which 14 or 15 asks about, puts eight, one for each register. They are counted whole, even where one fails. A refusal has those put up to
+ * it: none where it is 1 to 6; where it is 14 or 15, the eight of the edge that fails too, and after 14 the untaken edge is not asked
+ * about. The number is the same on every machine, and at most 16 times the instructions examined: all of them where the routine is
+ * accepted, those up to the code index of the answer where one is refused. A loading queue can go by it: library/c/turns.c has one.
  */
 uint32_t ramdulsi_check(const uint32_t *types, size_t types_words, const uint32_t *tags, size_t tags_words,
                         const uint32_t *blocks, size_t blocks_words, const uint32_t *code, size_t code_words,
-                        uint32_t place[2]);
+                        uint32_t verdict[3]);
 
 /* Whether every field of every allocated record meets its meaning.
  *   types, tags  as above

@@ -7,7 +7,19 @@ use crate::{no, verdict, Asked, Verdict};
 
 // ---- the check
 
-fn instruction(r: Routine, reading: &mut Reading, b: usize, index: usize, last: bool, types: Types) -> Asked {
+/// Number and place of the check of a routine, and 'the fit questions that the rules put' up to there.
+#[derive(Clone, Copy, Debug, PartialEq, Eq)]
+pub struct CheckAnswer {
+    pub number: u32,
+    pub first: u32,
+    pub second: u32,
+    pub asked: u32,
+}
+
+/// '8 for each edge put to Q14 or Q15, counted whole even where one fails'.
+const EDGE: u32 = 8;
+
+fn instruction(r: Routine, reading: &mut Reading, b: usize, index: usize, last: bool, asked: &mut u32) -> Asked {
     let p = parts(r.code[index]);
     let (a, base, c) = (p.a, p.b, p.c);
     let number = form(p, last, b, r.count());
@@ -23,10 +35,10 @@ fn instruction(r: Routine, reading: &mut Reading, b: usize, index: usize, last: 
             let Some(t) = reading.reference(base) else {
                 return no(10, b, index);
             };
-            if c as usize >= types.size(t) {
+            if c as usize >= reading.types.size(t) {
                 return no(11, b, index);
             }
-            if p.op == 9 && types.locked(t, c as usize) {
+            if p.op == 9 && reading.types.locked(t, c as usize) {
                 return no(23, b, index);
             }
             if !reading.may_touch(base) {
@@ -35,52 +47,62 @@ fn instruction(r: Routine, reading: &mut Reading, b: usize, index: usize, last: 
             if p.op == 8 {
                 reading.load(a, base, c as usize, t);
             } else {
+                // 'n for each store that passes Q12 (n the record's size)'
+                *asked += reading.types.size(t) as u32;
                 reading.store(a, base, c as usize, t);
             }
         }
-        _ => return block_end(r, reading, b, index),
+        _ => return block_end(r, reading, b, index, asked),
     }
     Ok(())
 }
 
-fn block_end(r: Routine, reading: &mut Reading, b: usize, index: usize) -> Asked {
+fn block_end(r: Routine, reading: &mut Reading, b: usize, index: usize, asked: &mut u32) -> Asked {
     let p = parts(r.code[index]);
     if reading.open.is_some() {
         return no(13, b, index);
     }
-    let (taken, untaken) = match p.op {
-        10 => (reading.meets(r.annotation(p.c as usize)), true),
-        11 => {
-            let (k, t) = (p.c >> 8, (p.c & 255) as usize);
-            (reading.meets_equal(r.annotation(t), p.a, k), reading.meets_not_equal(r.annotation(b + 1), p.a, k))
-        }
-        12 => (reading.meets_less(r.annotation(p.c as usize), p.a, p.b), reading.meets_not_less(r.annotation(b + 1), p.a, p.b)),
-        _ => (true, true),
+    if p.op == 0 {
+        return Ok(());
+    }
+    *asked += EDGE;
+    let taken = match p.op {
+        10 => reading.meets(r.annotation(p.c as usize)),
+        11 => reading.meets_equal(r.annotation((p.c & 255) as usize), p.a, p.c >> 8),
+        _ => reading.meets_less(r.annotation(p.c as usize), p.a, p.b),
     };
     if !taken {
         return no(14, b, index);
     }
+    if p.op == 10 {
+        return Ok(());
+    }
+    *asked += EDGE;
+    let untaken = match p.op {
+        11 => reading.meets_not_equal(r.annotation(b + 1), p.a, p.c >> 8),
+        _ => reading.meets_not_less(r.annotation(b + 1), p.a, p.b),
+    };
     if !untaken {
         return no(15, b, index);
     }
     Ok(())
 }
 
-fn judge(types: Types, r: Routine) -> Asked {
+fn judge(types: Types, r: Routine, asked: &mut u32) -> Asked {
     let mut reading = Reading::new(types);
     let mut index = 0;
     for b in 0..r.count() {
         reading.enter(r.annotation(b));
         let end = index + r.long(b);
         while index < end {
-            instruction(r, &mut reading, b, index, index + 1 == end, types)?;
+            instruction(r, &mut reading, b, index, index + 1 == end, asked)?;
             index += 1;
         }
     }
     Ok(())
 }
 
-fn check_asked(types: &[u32], tags: &[u32], blocks: &[u32], code: &[u32]) -> Asked {
+fn check_asked(types: &[u32], tags: &[u32], blocks: &[u32], code: &[u32], asked: &mut u32) -> Asked {
     q1_types(types, tags)?;
     q1_code(blocks, code)?;
     let ts = Types { rows: types, tags };
@@ -88,11 +110,13 @@ fn check_asked(types: &[u32], tags: &[u32], blocks: &[u32], code: &[u32]) -> Ask
     q2_to_q4(ts)?;
     q5(r)?;
     q6(ts, r)?;
-    judge(ts, r)
+    judge(ts, r, asked)
 }
 
-pub fn check(types: &[u32], tags: &[u32], blocks: &[u32], code: &[u32]) -> Verdict {
-    verdict(check_asked(types, tags, blocks, code))
+pub fn check(types: &[u32], tags: &[u32], blocks: &[u32], code: &[u32]) -> CheckAnswer {
+    let mut asked = 0;
+    let Verdict { number, first, second } = verdict(check_asked(types, tags, blocks, code, &mut asked));
+    CheckAnswer { number, first, second, asked }
 }
 
 // ---- allocations and meanings

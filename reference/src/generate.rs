@@ -323,10 +323,46 @@ fn chained(r: &mut Random, rows: &[u32], tags: &[u32]) -> (Vec<u32>, Vec<u32>) {
     (blocks, code)
 }
 
+/// A routine that stores much and often branches. All blocks know references in some registers, and nothing of r7, which alone is set: so
+/// their edges are met, but where a block, now and then, wants something else of a register.
+fn storing(r: &mut Random, types: &[u32]) -> (Vec<u32>, Vec<u32>) {
+    let type_count = types.len() / 9;
+    let bases = some_places(r, 7);
+    let mut shared: Vec<u32> = (0..8).map(|i| if i == 7 { 0 } else { any_type(r, type_count, 8) }).collect();
+    for &base in &bases {
+        shared[base] = type_word(REF, r.below(type_count), 0, 0);
+    }
+    let count = 1 + r.below(5);
+    let (mut blocks, mut code) = (Vec::new(), Vec::new());
+    for b in 0..count {
+        let start = code.len();
+        for _ in 0..r.below(6) {
+            let base = r.pick(&bases);
+            code.extend(stored(r, base, types[record(shared[base]) * 9]));
+        }
+        code.push(ending(r, count, b + 1 == count));
+        blocks.push((code.len() - start) as u32);
+        blocks.extend(shared.iter().map(|&w| if r.chance(20) { any_type(r, type_count, 8) } else { w }));
+    }
+    (blocks, code)
+}
+
+/// A store to a field of the record that a register refers to: of any register's word, or of the field's own, loaded before.
+fn stored(r: &mut Random, base: usize, size: u32) -> Vec<u32> {
+    let field = r.below(size as usize) as u32;
+    let at = |op: u32, a: u32| op << 24 | a << 20 | (base as u32) << 16 | field;
+    if r.chance(2) {
+        vec![at(8, 7), at(9, 7)]
+    } else {
+        vec![at(9, r.below(8) as u32)]
+    }
+}
+
 fn routine(r: &mut Random, types: &[u32], tags: &[u32]) -> (Vec<u32>, Vec<u32>) {
-    match r.below(12) {
+    match r.below(14) {
         0 | 1 => return walk(r, types),
         2 => return chained(r, types, tags),
+        3 | 4 => return storing(r, types),
         _ => (),
     }
     let type_count = types.len() / 9;
@@ -343,10 +379,11 @@ fn routine(r: &mut Random, types: &[u32], tags: &[u32]) -> (Vec<u32>, Vec<u32>) 
     (blocks, code)
 }
 
-/// Changes what the check refuses until it accepts, or gives up.
+/// Changes what the check refuses until it accepts, or gives up: now and then soon, since a refusal has its count of fit questions too.
 fn repair_routine(r: &mut Random, c: &mut Case) {
     let types = c.types.len() / 9;
-    for _ in 0..200 {
+    let rounds = if r.chance(8) { r.below(16) } else { 200 };
+    for _ in 0..rounds {
         let v = check(&c.types, &c.tags, &c.blocks, &c.code);
         let (b, i) = (v.first as usize, v.second as usize);
         match v.number {

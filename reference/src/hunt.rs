@@ -1,11 +1,12 @@
 //! A hunt for a broken promise: accepted routines take turns over one memory that passed its check, and both checks are asked again
-//! after every turn, mostly of one block.
+//! after every turn, mostly of one block. What a routine's check costs is looked at whether it accepts or refuses.
 
-use crate::generate::{another, case, Case, Random};
+use crate::generate::{another, case, change, random, Case, Random};
 use crate::protocol::line;
 use crate::tables::Types;
-use crate::Loader;
+use crate::{CheckAnswer, Loader};
 use std::fmt::Write;
+use std::ops::RangeInclusive;
 
 /// What a hunt has seen.
 #[derive(Clone, Copy, Default)]
@@ -17,6 +18,8 @@ pub struct Seen {
     pub changed: u64,
     /// locked words in these memories
     pub locked: u64,
+    /// fit questions that checks put, also those that refused
+    pub asked: u64,
 }
 
 /// Whether c's registers meet its block's annotation over a memory.
@@ -104,6 +107,58 @@ pub fn turns<L: Loader>(r: &mut Random, c: &Case, seen: &mut Seen) -> Result<(),
         seen.locked += locked(c, &memory).len() as u64;
     }
     Ok(())
+}
+
+/// How many instructions a check examined: all where it accepts, none where it refuses a table, else those up to its place.
+fn examined(c: &Case, a: CheckAnswer) -> usize {
+    match a.number {
+        0 => c.code.len(),
+        1..=6 => 0,
+        _ => a.second as usize + 1,
+    }
+}
+
+/// What a check can cost by its answer and the code alone: these do not tell which of the types the record of a store has.
+fn possible(c: &Case, a: CheckAnswer) -> RangeInclusive<u64> {
+    // an instruction that is refused counts for nothing but its edges, up to the one that fails
+    let (passed, put) = match a.number {
+        0..=6 => (examined(c, a), 0),
+        14 => (a.second as usize, 1),
+        15 => (a.second as usize, 2),
+        _ => (a.second as usize, 0),
+    };
+    let opcodes = || c.code.iter().take(passed).map(|w| w >> 24);
+    let jumps = opcodes().filter(|op| *op == 10).count();
+    let branches = opcodes().filter(|op| matches!(op, 11 | 12)).count();
+    let edges = 8 * (jumps + 2 * branches + put) as u64;
+    let stores = opcodes().filter(|op| *op == 9).count() as u64;
+    let sizes = || c.types.chunks_exact(9).map(|row| u64::from(row[0]));
+    edges + stores * sizes().min().unwrap_or(0)..=edges + stores * sizes().max().unwrap_or(0)
+}
+
+/// Looks at what the check of a case costs.
+pub fn cost<L: Loader>(c: &Case, seen: &mut Seen) -> Result<(), String> {
+    let a = L::check(&c.types, &c.tags, &c.blocks, &c.code);
+    let asked = u64::from(a.asked);
+    seen.asked += asked;
+    let broken = if asked > 16 * examined(c, a) as u64 {
+        "a check's count is at most 16 times the instructions examined"
+    } else if !possible(c, a).contains(&asked) {
+        "a check counts eight for each edge, and for each store the size of a record"
+    } else {
+        return Ok(());
+    };
+    Err(format!("broken: {broken}\n{}\n{a:?}", line("check", c)))
+}
+
+/// The same of a case, of some that it is changed to, most of them refused, and of a random one.
+pub fn costs<L: Loader>(r: &mut Random, c: &Case, seen: &mut Seen) -> Result<(), String> {
+    let mut c = c.clone();
+    for _ in 0..4 {
+        cost::<L>(&c, seen)?;
+        change(r, &mut c);
+    }
+    cost::<L>(&random(r), seen)
 }
 
 /// The case that a seed and a number give, and the random numbers that go on from there.

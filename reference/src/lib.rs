@@ -31,13 +31,13 @@ pub fn verdict(asked: Asked) -> Verdict {
     asked.err().unwrap_or(PASSED)
 }
 
-pub use checks::{check, entry_check, memory_check};
+pub use checks::{check, entry_check, memory_check, CheckAnswer};
 pub use machine::{run, RunAnswer};
 
 /// The four calls, so that one test can be put to more than one implementation.
 #[allow(clippy::too_many_arguments)]
 pub trait Loader {
-    fn check(types: &[u32], tags: &[u32], blocks: &[u32], code: &[u32]) -> Verdict;
+    fn check(types: &[u32], tags: &[u32], blocks: &[u32], code: &[u32]) -> CheckAnswer;
     fn memory_check(types: &[u32], tags: &[u32], allocations: &[u32], memory: &[u32]) -> Verdict;
     fn entry_check(
         types: &[u32],
@@ -56,7 +56,7 @@ pub trait Loader {
 pub struct Plain;
 
 impl Loader for Plain {
-    fn check(types: &[u32], tags: &[u32], blocks: &[u32], code: &[u32]) -> Verdict {
+    fn check(types: &[u32], tags: &[u32], blocks: &[u32], code: &[u32]) -> CheckAnswer {
         check(types, tags, blocks, code)
     }
 

@@ -1,7 +1,7 @@
 //! Requests and answers of the line protocol.
 
 use crate::generate::Case;
-use crate::{Loader, Plain, RunAnswer, Verdict};
+use crate::{CheckAnswer, Loader, Plain, RunAnswer, Verdict};
 use std::fmt::{self, Write as _};
 use std::io::{self, BufRead, Write};
 
@@ -165,9 +165,10 @@ pub fn line(request: &str, c: &Case) -> String {
     }
 }
 
-/// What a call gives: a check's verdict, or a run's answer with the memory that it leaves.
+/// What a call gives: the answer of a routine's check, the verdict of another check, or a run's answer with the memory that it leaves.
 #[derive(Debug, PartialEq, Eq)]
 pub enum Answer {
+    Checked(CheckAnswer),
     Verdict(Verdict),
     Ran(RunAnswer, Vec<u32>),
 }
@@ -175,6 +176,7 @@ pub enum Answer {
 impl Answer {
     pub fn number(&self) -> u32 {
         match self {
+            Answer::Checked(a) => a.number,
             Answer::Verdict(v) => v.number,
             Answer::Ran(a, _) => a.number,
         }
@@ -185,6 +187,7 @@ impl Answer {
 impl fmt::Display for Answer {
     fn fmt(&self, f: &mut fmt::Formatter) -> fmt::Result {
         match self {
+            Answer::Checked(a) => write!(f, "{} {} {} {}", a.number, a.first, a.second, a.asked),
             Answer::Verdict(v) => write!(f, "{} {} {}", v.number, v.first, v.second),
             Answer::Ran(RunAnswer { number, block, index, finished, registers }, memory) => {
                 write!(f, "{number} {block} {index} {finished}{} {}{}", list(registers), memory.len(), list(memory))
@@ -195,7 +198,7 @@ impl fmt::Display for Answer {
 
 pub fn answer<L: Loader>(request: &str, c: &Case) -> Answer {
     match request {
-        "check" => Answer::Verdict(L::check(&c.types, &c.tags, &c.blocks, &c.code)),
+        "check" => Answer::Checked(L::check(&c.types, &c.tags, &c.blocks, &c.code)),
         "memory" => Answer::Verdict(L::memory_check(&c.types, &c.tags, &c.allocations, &c.memory)),
         "entry" => Answer::Verdict(L::entry_check(&c.types, &c.tags, &c.allocations, &c.memory, &c.blocks, &c.code, c.block, c.registers)),
         _ => {

@@ -59,7 +59,7 @@ pub struct Open {
 }
 
 pub struct Reading<'a> {
-    types: Types<'a>,
+    pub types: Types<'a>,
     values: [Value; 256],
     made: usize,
     registers: [Name; 8],

@@ -1,12 +1,13 @@
 //! Asks the proved library and the plain one the same, on valid, nearly valid and random inputs, a run of the one written for speed as
 //! well, and lets accepted routines take turns with both checks asked again: `compare [SEED [CASES [SECONDS]]]`. Without a seed it takes
-//! one from the clock. Before that it puts instruction words to them, and compares with Q7 as document 01 words it. The first difference is
-//! shown whole, as lines that the program `ramdulsi` and the plain `protocol` read.
+//! one from the clock. What a routine's check costs is compared too, and held against the code and against its limit. Before that it puts
+//! instruction words to them, and compares with Q7 as document 01 words it. The first difference is shown whole, as lines that the program
+//! `ramdulsi` and the plain `protocol` read.
 
 use ramdulsi_comparison::{fast, Proved};
 use ramdulsi_reference::forms;
 use ramdulsi_reference::generate::{change, random, Case};
-use ramdulsi_reference::hunt::{numbered, turns, Seen};
+use ramdulsi_reference::hunt::{cost, numbered, turns, Seen};
 use ramdulsi_reference::protocol::{answer, line, REQUESTS};
 use ramdulsi_reference::Plain;
 use std::collections::BTreeSet;
@@ -30,11 +31,11 @@ fn number(request: &str, c: &Case) -> Result<u32, String> {
 }
 
 /// Puts a case to all.
-fn same(c: &Case, numbers: &mut Numbers) -> Result<(), String> {
-    for (request, seen) in REQUESTS.into_iter().zip(numbers) {
-        seen.insert(number(request, c)?);
+fn same(c: &Case, seen: &mut Seen, numbers: &mut Numbers) -> Result<(), String> {
+    for (request, numbers) in REQUESTS.into_iter().zip(numbers) {
+        numbers.insert(number(request, c)?);
     }
-    Ok(())
+    cost::<Proved>(c, seen)
 }
 
 /// Puts words to all, each alone in a block and before a halt: 7 is the answer where document 01 has it so. Returns how many words.
@@ -61,10 +62,10 @@ fn compare(seed: u64, k: u64, seen: &mut Seen, numbers: &mut Numbers) -> Result<
     let (mut r, mut c) = numbered(seed, k);
     turns::<Proved>(&mut r, &c, seen)?;
     for _ in 0..4 {
-        same(&c, numbers)?;
+        same(&c, seen, numbers)?;
         change(&mut r, &mut c);
     }
-    same(&random(&mut r), numbers)
+    same(&random(&mut r), seen, numbers)
 }
 
 fn main() {
@@ -91,11 +92,12 @@ fn main() {
         }
         k += 1;
     }
-    let Seen { routines, turns, changed, locked } = seen;
+    let Seen { routines, turns, changed, locked, asked } = seen;
     println!("compare: {k} cases in {} s, {} answers alike", began.elapsed().as_secs(), 20 * k);
     for (request, seen) in REQUESTS.iter().zip(numbers) {
         let all: String = seen.iter().map(|n| format!(" {n}")).collect();
         println!("compare: numbers of {request}:{all}");
     }
+    println!("compare: {asked} fit questions counted, as stores and edges ask for, at most 16 for each instruction examined");
     println!("compare: {routines} accepted routines took {turns} turns over checked memory, all safe; {changed} memories changed, {locked} locked words kept");
 }

@@ -16,13 +16,14 @@ use Rattle.model.specs.Table.{Tables, tablesOf, locked, headOf, wordsOf, rowOf}
 use Rattle.model.specs.Machine.{load, store, toStore}
 use Rattle.model.specs.Reading.{rowFits, Reading, laidAt, upFrom, born, putRegister, noBase, viewed, look, loaded, stored}
 use Rattle.model.specs.Check.{valueIn, withReference, referenceIn, mayTouch, permits, onRecord, readPlain}
-use Rattle.model.proofs.Logic.{byEqual}
+use Rattle.model.specs.Cost.{plainAsked}
+use Rattle.model.proofs.Logic.{byTest, byEqual}
 use Rattle.model.proofs.Lists.{map-set, getD-past}
 use Rattle.table.proofs.Laws.{row-length, words-length, head-at, tables-size, tables-words}
 use Rattle.known.specs.Numbers.{valuesOf}
 use Rattle.known.proofs.Numbers.{frames-set}
 use Rattle.instruction.specs.Form.{plainOf, Inside}
-use Rattle.access.specs.State.{viewOf, viewsOf, reading, numbered, loadAsk, storeAsk, touched}
+use Rattle.access.specs.State.{viewOf, viewsOf, reading, numbered, loadAsk, onStore, storeAsk, storeAsked, touched, touchAsked}
 
 -- ---- names and type words
 
@@ -144,16 +145,16 @@ module _ (𝒯 : Tables) (place : Question → Refusal) (a v c : ℕ) (st : Read
 
 module _ (𝒯 : Tables) (place : Question → Refusal) (g v t c x : ℕ) (st : Reading) where
   pub store-locked : permits 𝒯 toStore t c ≡ false → (z : ℕ) → z ≡ 23 → (st′ : Reading) → numbered place z st′ ≡ storeAsk 𝒯 place g v t c x st
-  unfolding numbered questionOf storeAsk provided
+  unfolding numbered questionOf storeAsk onStore provided
   store-locked l z ez st′ = rw (ez, l)
 
   module _ (l : permits 𝒯 toStore t c ≡ true) where
     pub store-other : mayTouch 𝒯 st v ≡ false → (z : ℕ) → z ≡ 12 → (st′ : Reading) → numbered place z st′ ≡ storeAsk 𝒯 place g v t c x st
-    unfolding numbered questionOf storeAsk provided
+    unfolding numbered questionOf storeAsk onStore provided
     store-other m z ez st′ = rw (ez, l, m)
 
     store-own : mayTouch 𝒯 st v ≡ true → (st′ : Reading) → st′ ≡ stored 𝒯 st g v t c x → numbered place 0 st′ ≡ storeAsk 𝒯 place g v t c x st
-    unfolding numbered storeAsk provided
+    unfolding numbered storeAsk onStore provided
     store-own m st′ es = rw (l, m, es)
 
 module _ (types tags : List ℕ) (place : Question → Refusal) (registers words frames constants views fields : List ℕ) (since base g v t c x n : ℕ)
@@ -198,7 +199,7 @@ module _ (𝒯 : Tables) (place : Question → Refusal) (g : ℕ) (loads : Bool)
     touch-load e = rw (as-before, ← en, lt-ltb c n q, e, ← es)
 
     pub touch-store : loads ≡ false → storeAsk 𝒯 place g v t c (valueIn st a) st′ ≡ touched 𝒯 place g loads a v t c st
-    unfolding touched storeAsk provided
+    unfolding touched storeAsk onStore provided
     touch-store e = rw (as-before, ← en, lt-ltb c n q, e, ← es)
 
 module _ {w a b c : ℕ} (p : Parts w a b c) (f : Inside 8 w) (𝒯 : Tables) (place : Question → Refusal) (g : ℕ) (st : Reading) where
@@ -212,4 +213,45 @@ module _ {w a b c : ℕ} (p : Parts w a b c) (f : Inside 8 w) (𝒯 : Tables) (p
   unfolding readPlain onRecord withReference touched
   access-on t er o eo =
       byEqual o 8 (λ e. rw (plain-load p (sym eo ∙ e), ← er, eq-eqb o 8 e))
+      (λ n. rw (plain-store p (omega arith), ← er, ne-eqb o 8 n))
+
+-- ---- the fit questions that a load or a store puts
+
+module _ (𝒯 : Tables) (v t c : ℕ) (st : Reading) where
+  pub locked-asked : permits 𝒯 toStore t c ≡ false → 0 ≡ storeAsked 𝒯 v t c st
+  unfolding storeAsked onStore provided
+  locked-asked l = rw l
+
+  module _ (l : permits 𝒯 toStore t c ≡ true) where
+    pub other-asked : mayTouch 𝒯 st v ≡ false → 0 ≡ storeAsked 𝒯 v t c st
+    unfolding storeAsked onStore provided
+    other-asked m = rw (l, m)
+
+    pub own-asked : mayTouch 𝒯 st v ≡ true → 𝒯 .size t ≡ storeAsked 𝒯 v t c st
+    unfolding storeAsked onStore provided
+    own-asked m = rw (l, m)
+
+  pub load-asked : (loads : Bool) → loads ≡ true → 0 ≡ touchAsked 𝒯 loads v t c st
+  unfolding touchAsked
+  load-asked loads e = rw e
+
+  module _ (loads : Bool) (n : ℕ) (en : n ≡ 𝒯 .size t) where
+    pub offset-asked : n ≤ c → 0 ≡ touchAsked 𝒯 loads v t c st
+    unfolding touchAsked provided
+    offset-asked q = rw (← en, le-ltb c n q) (byTest loads (λ e. rw e) (λ e. rw e))
+
+    pub store-asked : c < n → (st′ : Reading) → st′ .base ≡ st .base → loads ≡ false → storeAsked 𝒯 v t c st′ ≡ touchAsked 𝒯 loads v t c st
+    unfolding touchAsked storeAsked onStore provided
+    store-asked q st′ eb e = rw (eb, e, ← en, lt-ltb c n q)
+
+module _ {w a b c : ℕ} (p : Parts w a b c) (f : Inside 8 w) (𝒯 : Tables) (st : Reading) where
+  pub nothing-asked : Nothing ≡ referenceIn 𝒯 st b → 0 ≡ plainAsked 𝒯 (plainOf w) st
+  unfolding plainAsked onRecord withReference
+  nothing-asked er = byEqual (opcodeOf w) 8 (λ e. rw (plain-load p e)) (λ n. rw (plain-store p (omega arith), ← er))
+
+  pub access-asked : (t : ℕ) → To t ≡ referenceIn 𝒯 st b → (o : ℕ) → o ≡ opcodeOf w
+      → touchAsked 𝒯 (eqb o 8) (valueIn st b) t c st ≡ plainAsked 𝒯 (plainOf w) st
+  unfolding plainAsked onRecord withReference touchAsked storeAsked onStore
+  access-asked t er o eo =
+      byEqual o 8 (λ e. rw (plain-load p (sym eo ∙ e), eq-eqb o 8 e))
       (λ n. rw (plain-store p (omega arith), ← er, ne-eqb o 8 n))

@@ -14,9 +14,10 @@ ghost use Rattle.model.specs.Table.{tablesOf, headOf};
 ghost use Rattle.model.specs.Machine.{toStore};
 ghost use Rattle.model.specs.Reading.{laidAt, upFrom, look, rowFits};
 ghost use Rattle.model.specs.Check.{permits, readPlain};
+ghost use Rattle.model.specs.Cost.{plainAsked};
 ghost use Rattle.instruction.specs.Form.{plainOf, Inside};
 ghost use Rattle.known.specs.Numbers.{tablesIn, valuesIn};
-ghost use Rattle.access.specs.State.{reading, Sizes, numbered, Reads, loadAsk, storeAsk, touched};
+ghost use Rattle.access.specs.State.{reading, Sizes, numbered, Reads, loadAsk, storeAsk, storeAsked, touched, touchAsked};
 use model::Reference;
 use model::limit;
 use model::number;
@@ -24,11 +25,13 @@ use model::number;
 // No record is open.
 pub const NO_BASE: u32 = 256;
 
-// What is left of a reading beside the arrays: the number of a no, the birthplace of the last close, the base of the open record.
+// What is left of a reading beside the arrays: the number of a no, the birthplace of the last close, the base of the open record, and how
+// many fit questions the block has put.
 pub struct Progress {
     pub number: u32,
     pub since: u32,
     pub base: u32,
+    pub asked: u32,
 }
 
 // An instruction before its block's end: its word, the birthplace of what it makes, and how far the reading is.
@@ -40,12 +43,13 @@ pub struct Fetched {
 
 // A no to the question of that number.
 pub fn refused(number: u32, s: Progress) -> Progress
-    ensures { λ r. ⌜ r ≡ record { number = number; since = s .since; base = s .base } ⌝ }
+    ensures { λ r. ⌜ r ≡ record { number = number; since = s .since; base = s .base; asked = s .asked } ⌝ }
 {
     Progress {
         number: number,
         since: s.since,
         base: s.base,
+        asked: s.asked,
     }
 }
 
@@ -167,7 +171,7 @@ fn load(registers: &mut [u8; 8], fields: &[u8; 8], s: Progress, x: Transfer) -> 
         → numbered place (r .number) (reading (now (registers .exit)) words frames constants views (now (fields .entry)) (r .since) (r .base))
         ≡ loadAsk (tablesOf types tags) place (x .a) (x .v) (x .c)
         (reading (now (registers .entry)) words frames constants views (now (fields .entry)) (s .since) (s .base)))
-        × (isAnswer (r .number) ≡ true) ⌝ }
+        × (isAnswer (r .number) ≡ true) × (r .asked ≡ s .asked) ⌝ }
 {
     if may_touch(s.base, x.v) {
         let a = x.a;
@@ -199,7 +203,8 @@ fn put(
     fits::row_fits(tags, words, frames, constants, 0, n as usize, row, fields)
 }
 
-// Q23 and Q12 of a store, and the field of the record, of size n, is the value. It closes if each field fits its type.
+// Q23 and Q12 of a store, and the field of the record, of size n, is the value. It closes if each field fits its type: n fit questions,
+// of which none is left out where an earlier one fails.
 fn store(
     types: &[u32],
     tags: &[u32],
@@ -212,13 +217,15 @@ fn store(
     n: u32,
     value: u8,
 ) -> Progress
-    requires { ⌜ (n ≡ headOf (now types) (x .t)) × (n ≤ 8) × (x .c < n) × (x .t * 9 + 9 ≤ length (now types)) × (x .g < 32) ⌝ }
+    requires { ⌜ (n ≡ headOf (now types) (x .t)) × (n ≤ 8) × (x .c < n) × (x .t * 9 + 9 ≤ length (now types)) × (x .g < 32) × (s .asked ≤ 256) ⌝ }
     ensures { λ r. ⌜ ((place : Question → Refusal) (registers views : List ℕ)
         → numbered place (r .number)
         (reading registers (now (words .entry)) (now (frames .entry)) (now (constants .entry)) views (now (fields .exit)) (r .since) (r .base))
         ≡ storeAsk (tablesIn (now (types .entry)) tags) place (x .g) (x .v) (x .t) (x .c) value
         (reading registers (now (words .entry)) (now (frames .entry)) (now (constants .entry)) views (now (fields .entry)) (s .since) (s .base)))
-        × (isAnswer (r .number) ≡ true) ⌝ }
+        × (isAnswer (r .number) ≡ true)
+        × ((registers views : List ℕ) → r .asked ≡ s .asked + storeAsked (tablesIn (now (types .entry)) tags) (x .v) (x .t) (x .c)
+        (reading registers (now (words .entry)) (now (frames .entry)) (now (constants .entry)) views (now (fields .entry)) (s .since) (s .base))) ⌝ }
 {
     if !may_store(types, x.t, x.c) {
         return refused(number::LOCKED_FIELD, s);
@@ -228,6 +235,7 @@ fn store(
     }
     let own = table::row(types, x.t as usize);
     let born = x.g as u32;
+    let asked = s.asked + n;
     if put(
         tags,
         words,
@@ -243,6 +251,7 @@ fn store(
             number: number::PASSED,
             since: born,
             base: NO_BASE,
+            asked: asked,
         };
     }
     let since = s.since;
@@ -251,6 +260,7 @@ fn store(
         number: number::PASSED,
         since: since,
         base: base,
+        asked: asked,
     }
 }
 
@@ -268,9 +278,10 @@ fn touch(
     s: Progress,
     x: Transfer,
 ) -> Progress
-    requires { ⌜ (x .g < 32) × (x .a < 8) × (s .number ≡ 0) × Sizes (now types) ⌝ }
+    requires { ⌜ (x .g < 32) × (x .a < 8) × (s .number ≡ 0) × Sizes (now types) × (s .asked ≤ 256) ⌝ }
     ensures { λ r. ⌜ Reads registers words frames constants views fields s r
-        (λ place. touched (tablesIn (now (types .entry)) tags) place (x .g) (x .loads) (x .a) (x .v) (x .t) (x .c)) ⌝ }
+        (λ place. touched (tablesIn (now (types .entry)) tags) place (x .g) (x .loads) (x .a) (x .v) (x .t) (x .c))
+        (touchAsked (tablesIn (now (types .entry)) tags) (x .loads) (x .v) (x .t) (x .c)) ⌝ }
 {
     let n = size(types, x.t);
     if n <= x.c {
@@ -308,9 +319,10 @@ pub fn access(
     fields: &mut [u8; 8],
     i: Fetched,
 ) -> Progress
-    requires { ⌜ Inside 8 (i .word) × (i .g < 32) × (i .s .number ≡ 0) × Sizes (now types) ⌝ }
+    requires { ⌜ Inside 8 (i .word) × (i .g < 32) × (i .s .number ≡ 0) × Sizes (now types) × (i .s .asked ≤ 256) ⌝ }
     ensures { λ r. ⌜ Reads registers words frames constants views fields (i .s) r
-        (λ place. readPlain (tablesIn (now (types .entry)) tags) place (i .g) (plainOf (i .word))) ⌝ }
+        (λ place. readPlain (tablesIn (now (types .entry)) tags) place (i .g) (plainOf (i .word)))
+        (plainAsked (tablesIn (now (types .entry)) tags) (plainOf (i .word))) ⌝ }
 {
     let s = i.s;
     let word = i.word;

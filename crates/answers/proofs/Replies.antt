@@ -1,16 +1,18 @@
 -- Laws of a line of output: its number, its answer, what is added in words.
 use mathlib.Core.Path.{_≡_, refl, sym, ap, subst, _∙_}
 use mathlib.Core.Bool.{Bool, true, false, not, false≢true}
-use mathlib.Core.List.{List, [], _∷_}
+use mathlib.Core.List.{List, [], _∷_, _++_}
 use Prim.Native.Nat.{ℕ, _+_, _≤_}
 use native.Mathlib.Omega.{arith}
 use lib.Dec.{eqb}
 use lib.ListN.{take}
 use borrow.Author.Tests.{not-true, not-false, eqb-true, eqb-false, eq-eqb, ne-eqb}
 use Rattle.model.proofs.Logic.{byEqual, pick-true, pick-false}
+use Rattle.grammar.specs.Codes.{codes}
 use Rattle.protocol.specs.Text.{decimal}
 use Rattle.output.specs.Appended.{Appended}
-use Rattle.output.specs.Digits.{allFrom}
+use Rattle.output.specs.Digits.{printable, allFrom}
+use Rattle.output.proofs.Decimals.{decimal-printable, all-append}
 use Rattle.output.proofs.Appending.{nothing, after, same-text}
 use Rattle.reader.specs.declared.Line.{Line}
 use Rattle.grammar.specs.Phase.{GAP, MALFORMED}
@@ -21,8 +23,8 @@ use Rattle.telling.specs.Told.{Told}
 use Rattle.answers.specs.declared.Given.{Given}
 use Rattle.answers.specs.declared.Style.{Style}
 use Rattle.answers.specs.declared.Reply.{Reply}
-use Rattle.answers.specs.Answers.{Answer, wordsOf, remarkText, lineNumber, outputLine, lineText, refusalRow, refused, haltedRow, unread, requestAnswer}
-use Rattle.answers.specs.Gives.{Gives, speaks, answerAt, Remarked, Ended, Replied}
+use Rattle.answers.specs.Answers.{Answer, costText, wordsOf, remarkText, lineNumber, outputLine, lineText, refusalRow, refused, haltedRow, unread, requestAnswer}
+use Rattle.answers.specs.Gives.{Gives, speaks, answerAt, wordsIn, Remarked, Ended, Replied}
 
 -- ---- the number of a line
 
@@ -85,12 +87,8 @@ module _ (l : Line) (w e n : List ℕ) where
   spoken-words row = spoken (λ x a. wordsOf a row ≡ remarkText x row) (λ k. refl) (λ f p q. refl)
 
   told-of : {b c : List ℕ} {m : ℕ} (g : Given) (row : List ℕ) → Gives b m (answerAt l w e n) g c
-      → answerText (g .row) (g .first) (g .second) row ≡ wordsOf (answerAt l w e n) row
-  told-of g row y =
-      let a = answerAt l w e n in
-      ap (λ k. answerText k (g .first) (g .second) row) (y .row)
-      ∙ ap (λ k. answerText (a .row) k (g .second) row) (y .first)
-      ∙ ap (λ k. answerText (a .row) (a .first) k row) (y .second)
+      → wordsIn g row ≡ wordsOf (answerAt l w e n) row
+  told-of g row y = rw (y .row, y .first, y .second, y .counted, y .asked)
 
   silent : speaks (l .phase) ≡ false → said r ≡ silence
   silent h =
@@ -144,15 +142,28 @@ unremarked worded g out h =
       room = omega arith;
     }
 
-pub remarked : (worded : Bool) (g : Given) (before : List ℕ) (m : ℕ) (left : List ℕ) → not worded ≡ false
-    → Told (answerText (g .row) (g .first) (g .second)) before (g .held) m left → Remarked worded g before m left
-remarked worded g before m left h x =
+-- the count of an answer
+cost-seen : (counted : Bool) (asked : ℕ) → printable (costText counted asked) ≡ true
+unfolding allFrom
+cost-seen true asked = all-append 32 126 (codes "; fit questions: ") (decimal asked) refl (decimal-printable asked)
+cost-seen false asked = refl
+
+pub uncounted : (counted : Bool) (asked : ℕ) (out : List ℕ) (n : ℕ) → not counted ≡ true → Appended out n (costText counted asked) n out
+uncounted counted asked out n e = same-text (sym (pick-false counted _ _ (not-true counted e))) (nothing out n)
+
+pub counted-text : (counted : Bool) (asked : ℕ) → not counted ≡ false → codes "; fit questions: " ++ decimal asked ≡ costText counted asked
+counted-text counted asked e = sym (pick-true counted _ _ (not-false counted e))
+
+pub remarked : (worded : Bool) (g : Given) (before : List ℕ) (k m : ℕ) (between left : List ℕ) → not worded ≡ false
+    → Told (answerText (g .row) (g .first) (g .second)) before (g .held) k between
+    → Appended between k (costText (g .counted) (g .asked)) m left → m ≤ k + 37 → Remarked worded g before m left
+remarked worded g before k m between left h x y small =
     record {
-      remark = answerText (g .row) (g .first) (g .second) (x .row);
-      seen = x .seen;
+      remark = wordsIn g (x .row);
+      seen = all-append 32 126 (answerText (g .row) (g .first) (g .second) (x .row)) _ (x .seen) (cost-seen (g .counted) (g .asked));
       plain = λ p. absurd (false≢true (sym p ∙ not-false worded h));
       told = λ p. (x .row, refl);
-      appended = x .appended;
+      appended = after (x .appended) y;
       room = omega (arith, x .short, x .appended .end);
     }
 

@@ -15,7 +15,7 @@ use Rattle.telling.specs.Row.{answerText}
 use Rattle.answers.specs.declared.Given.{Given}
 use Rattle.answers.specs.declared.Style.{Style}
 use Rattle.answers.specs.declared.Reply.{Reply}
-use Rattle.answers.specs.Answers.{Answer, unread, requestAnswer, lineText, remarkText, refusalRow, refused}
+use Rattle.answers.specs.Answers.{Answer, unread, requestAnswer, costText, lineText, remarkText, refusalRow, refused}
 
 -- no answer is longer: a run's with the memory of a whole pool
 abbrev pub longest : ℕ
@@ -27,6 +27,8 @@ pub record Gives (before : List ℕ) (n : ℕ) (a : Answer) (g : Given) (after :
   pub row : g .row ≡ a .row
   pub first : g .first ≡ a .first
   pub second : g .second ≡ a .second
+  pub counted : g .counted ≡ a .counted
+  pub asked : g .asked ≡ a .asked
   pub room : g .held ≤ n + longest
 
 -- a line at its end is a request or malformed
@@ -38,24 +40,28 @@ abbrev pub answerAt : Line → (words ends longs : List ℕ) → Answer
 answerAt l words ends longs =
     pick (eqb (l .phase) MALFORMED) (unread (l .stop)) (requestAnswer (l .form) (partsIn words ends (l .marked)) (take (l .stored) longs))
 
+-- what is added in words to an answer that stands in the buffer
+abbrev pub wordsIn : Given → List ℕ → List ℕ
+wordsIn g row = answerText (g .row) (g .first) (g .second) row ++ costText (g .counted) (g .asked)
+
 -- words after an answer, where they are asked for: a text without line ends, made of some row of the table of words
 pub record Remarked (worded : Bool) (g : Given) (before : List ℕ) (r : ℕ) (after : List ℕ) : Type 0 where
   pub remark : List ℕ
   pub seen : printable remark ≡ true
   pub plain : worded ≡ false → remark ≡ []
-  pub told : worded ≡ true → (row : List ℕ) × (remark ≡ answerText (g .row) (g .first) (g .second) row)
+  pub told : worded ≡ true → (row : List ℕ) × (remark ≡ wordsIn g row)
   pub appended : Appended before (g .held) remark r after
-  pub room : r ≤ g .held + 16000
+  pub room : r ≤ g .held + 16037
 
 -- an answer, the words after it and its line's end
 pub record Ended (worded : Bool) (g : Given) (before : List ℕ) (reply : Reply) (after : List ℕ) : Type 0 where
   pub remark : List ℕ
   pub seen : printable remark ≡ true
   pub plain : worded ≡ false → remark ≡ []
-  pub told : worded ≡ true → (row : List ℕ) × (remark ≡ answerText (g .row) (g .first) (g .second) row)
+  pub told : worded ≡ true → (row : List ℕ) × (remark ≡ wordsIn g row)
   pub text : Appended before (g .held) (remark ++ (10 ∷ [])) (reply .held) after
   pub refusal : reply .refused ≡ refusalRow (g .row)
-  pub room : reply .held ≤ g .held + 16001
+  pub room : reply .held ≤ g .held + 16038
 
 -- what a line says is answered, with words after it where they are asked for
 pub record Replied (s : Style) (count : ℕ) (what : Said) (before : List ℕ) (n : ℕ) (reply : Reply) (after : List ℕ) : Type 0 where

@@ -5,26 +5,30 @@ ghost use lib.ListN.{length, take};
 ghost use Rattle.grammar.specs.Grammar.{pool};
 ghost use Rattle.protocol.specs.Said.{said, partsIn};
 ghost use Rattle.calls.specs.Requests.{runOf, readyOf};
-ghost use Rattle.answers.specs.Answers.{requestAnswer, lineNumber, refusalRow, runRow};
+ghost use Rattle.answers.specs.Answers.{requestAnswer, lineNumber, costText, refusalRow, runRow};
 ghost use Rattle.model.specs.Table.{codeOf};
 ghost use Rattle.model.specs.Machine.{run};
-ghost use Rattle.answers.specs.Answers.{judged as judgedAnswer, unread as unreadAnswer, ranWith as printedAnswer, ran as ranAnswer};
+ghost use Rattle.answers.specs.Answers.{judged as judgedAnswer, checked as checkedAnswer, unread as unreadAnswer};
+ghost use Rattle.answers.specs.Answers.{ranWith as printedAnswer, ran as ranAnswer};
 ghost use Rattle.answers.specs.Gives.{Gives, speaks, answerAt, Remarked, Ended, Replied};
 ghost use Rattle.reader.specs.Reader.{reader};
 ghost use Rattle.output.specs.Appended.{buffer, Appended};
 use calls::long;
 use calls::part;
+use model::CheckAnswer;
 use model::RunAnswer;
 use model::Verdict;
 use model::number;
 use protocol::Line;
 
-// An answer that stands in the buffer: where it ends, and what the table of words is to be asked of it.
+// An answer that stands in the buffer: where it ends, what the table of words is to be asked of it, and whether it has a count, and which.
 pub struct Given {
     pub held: usize,
     pub row: u32,
     pub first: u64,
     pub second: u64,
+    pub counted: bool,
+    pub asked: u64,
 }
 
 // How answers are written.
@@ -41,6 +45,7 @@ pub struct Reply {
     pub refused: bool,
 }
 
+// What the memory check or the entry check answered.
 fn judged(out: &mut [u8; output::BUFFER], n: usize, v: Verdict) -> Given
     requires { ⌜ n ≤ 65600 ⌝ }
     ensures { λ r. ⌜ Gives (now (out .entry)) n (judgedAnswer v) r (now (out .exit)) ⌝ }
@@ -51,6 +56,24 @@ fn judged(out: &mut [u8; output::BUFFER], n: usize, v: Verdict) -> Given
         row: v.number,
         first: v.first as u64,
         second: v.second as u64,
+        counted: false,
+        asked: 0,
+    }
+}
+
+// What the check of a routine answered.
+fn checked(out: &mut [u8; output::BUFFER], n: usize, a: CheckAnswer) -> Given
+    requires { ⌜ n ≤ 65600 ⌝ }
+    ensures { λ r. ⌜ Gives (now (out .entry)) n (checkedAnswer a) r (now (out .exit)) ⌝ }
+{
+    let held = output::check_answer(out, n, a);
+    Given {
+        held: held,
+        row: a.number,
+        first: a.first as u64,
+        second: a.second as u64,
+        counted: true,
+        asked: a.asked as u64,
     }
 }
 
@@ -65,6 +88,8 @@ fn unread(out: &mut [u8; output::BUFFER], n: usize, place: u64) -> Given
         row: words::MALFORMED,
         first: place,
         second: 0,
+        counted: false,
+        asked: 0,
     }
 }
 
@@ -88,6 +113,8 @@ fn printed(out: &mut [u8; output::BUFFER], n: usize, r: RunAnswer, memory: &[u32
         row: run_row(r.number),
         first: r.block as u64,
         second: r.index as u64,
+        counted: false,
+        asked: 0,
     }
 }
 
@@ -148,7 +175,7 @@ fn request(
     let form = l.form;
     let marked = l.marked;
     if form == protocol::CHECK {
-        return judged(out, n, calls::check(words, ends, marked));
+        return checked(out, n, calls::check(words, ends, marked));
     }
     if form == protocol::MEMORY {
         return judged(out, n, calls::memory_check(words, ends, marked));
@@ -192,6 +219,19 @@ fn numbered(out: &mut [u8; output::BUFFER], n: usize, lined: bool, count: u64) -
     output::put(out, at, b' ')
 }
 
+// The count of an answer that has one, in words.
+fn cost(out: &mut [u8; output::BUFFER], n: usize, counted: bool, asked: u64) -> usize
+    requires { ⌜ n + 37 ≤ buffer ⌝ }
+    ensures text { λ r. ⌜ Appended (now (out .entry)) n (costText counted asked) r (now (out .exit)) ⌝ }
+    ensures room { λ r. ⌜ r ≤ n + 37 ⌝ }
+{
+    if !counted {
+        return n;
+    }
+    let at = output::text(out, n, b"; fit questions: ");
+    output::number(out, at, asked)
+}
+
 // What an answer means, where words are asked for.
 fn remark(out: &mut [u8; output::BUFFER], worded: bool, g: Given) -> usize
     requires { ⌜ g .held + 16384 ≤ buffer ⌝ }
@@ -200,7 +240,8 @@ fn remark(out: &mut [u8; output::BUFFER], worded: bool, g: Given) -> usize
     if !worded {
         return g.held;
     }
-    words::explain(out, g.held, g.row, g.first, g.second)
+    let at = words::explain(out, g.held, g.row, g.first, g.second);
+    cost(out, at, g.counted, g.asked)
 }
 
 // Whether an answer is other than 0 and 40.

@@ -1,6 +1,6 @@
 -- Laws of a block's end: Q7 to Q9 and Q13, what an edge tells, Q14 and Q15.
 use mathlib.Core.Path.{_≡_, refl, sym, ap, _∙_}
-use mathlib.Core.Bool.{Bool, true, false, false≢true}
+use mathlib.Core.Bool.{Bool, true, false, not, false≢true}
 use mathlib.Core.List.{List, [], _∷_}
 use Prim.Native.Nat.{ℕ, zero, suc, _+_, _/_, _<_, _≤_}
 use native.Mathlib.Numerals.{add-one}
@@ -14,8 +14,9 @@ use Rattle.model.specs.Types.{Dep, name, depOf, renameDep, Ty, any, ref, maybe,
 use Rattle.model.specs.Table.{Tables, Routine}
 use Rattle.model.specs.Machine.{End, halt, jump, ifEqual, ifLess, Instruction, plain, end, malformed, decode, targetsExist, formAsk}
 use Rattle.model.specs.Values.{Values, birthplace, typed, knownEqual}
-use Rattle.model.specs.Reading.{rowFits, Reading, rekinded, notZero, below, notBelow, taken, untaken}
+use Rattle.model.specs.Reading.{rowFits, Reading, rekinded, isOpen, notZero, below, notBelow, taken, untaken}
 use Rattle.model.specs.Check.{readEdges, readEnd, readInstruction}
+use Rattle.model.specs.Cost.{edgesAsked, instructionAsked}
 use Rattle.model.proofs.Lists.{set-same}
 use Rattle.model.proofs.Logic.{byTest, byEqual, number-of, answer-number, answer-of, answer-none}
 use Rattle.instruction.specs.Form.{formNo, endOf, forks, Ending}
@@ -25,7 +26,7 @@ use Rattle.known.proofs.Numbers.{dep-name, byKind, type-any, type-ref, type-may
 use Rattle.access.specs.State.{reading, numbered}
 use Rattle.access.proofs.Outcomes.{numbered-no}
 use Rattle.branch.specs.declared.EdgeFacts.{EdgeFacts}
-use Rattle.branch.specs.End.{endNo, retyped, pastZero, nextKind, takenIn, untakenIn, Tells, forkAsk, EdgeRows}
+use Rattle.branch.specs.End.{endNo, retyped, pastZero, nextKind, takenIn, untakenIn, Tells, forkAsk, forkAsked, EdgeRows}
 
 -- ---- Q7 to Q9 and Q13
 
@@ -106,6 +107,28 @@ module _ (𝒯 : Tables) (P : Routine) (place : Question → Refusal) (b g w : �
         le-ltb (st .base) 256 shut,
         ← em,
       ) (carried place st m)
+
+-- the fit questions: none where one of them had a no, else those of the edges
+module _ (𝒯 : Tables) (P : Routine) (b w : ℕ) (st : Reading) (count n : ℕ) (ec : P .count ≡ count) (e : n ≡ endNo (decode w) b count (st .base)) where
+  unasked : (x : Instruction) → n ≡ endNo x b (P .count) (st .base) → (n ≡ 0 → ⊥) → 0 ≡ instructionAsked 𝒯 P b true x st
+  unfolding endNo instructionAsked formAsk provided
+  unasked malformed e d = refl
+  unasked (plain x) e d = refl
+  unasked (end x) e d =
+      byTest (targetsExist (P .count) b x)
+      (λ p. byTest (ltb (st .base) 256) (λ q. rw (p, q)) (λ q. absurd (d (e ∙ rw (p, q)))))
+      (λ p. rw p)
+
+  pub end-unasked : (n ≡ 0 → ⊥) → 0 ≡ instructionAsked 𝒯 P b true (decode w) st
+  end-unasked d = unasked (decode w) (rw ec e) d
+
+  pub end-asked : n ≡ 0 → edgesAsked 𝒯 P (endOf w) st ≡ instructionAsked 𝒯 P b true (decode w) st
+  unfolding instructionAsked provided
+  end-asked z =
+      let here : n ≡ endNo (decode w) b (P .count) (st .base) = rw ec e in
+      let shut = form-passed (decode w) b (P .count) (st .base) (sym z ∙ here) .1 in
+      let ends = end-word w b (P .count) (st .base) n here z in
+      rw (← form-ending {A = ℕ} (λ _. 0) (P .count) b _ (λ x. provided (not (isOpen st)) 0 λ _. edgesAsked 𝒯 P x st) w ends, le-ltb (st .base) 256 shut)
 
 -- ---- what an edge tells
 
@@ -254,6 +277,34 @@ pub fork-edges : (𝒯 : Tables) (P : Routine) (place : Question → Refusal) (b
 fork-edges 𝒯 P place b w takenRow untakenRow st l h k t words frames constants T =
     rw (T .on-taken, T .on-untaken) (forks-ask 𝒯 P place b (endOf w) takenRow untakenRow st l (branches w h k))
 
+-- ---- the fit questions of Q14 and Q15
+
+module _ (𝒯 : Tables) (P : Routine) (w : ℕ) (st : Reading) where
+  pub halt-asked : opcodeOf w ≡ 0 → 0 ≡ edgesAsked 𝒯 P (endOf w) st
+  unfolding edgesAsked
+  halt-asked o = rw (end-halt w o)
+
+  pub jump-asked : opcodeOf w ≡ 10 → 8 ≡ edgesAsked 𝒯 P (endOf w) st
+  unfolding edgesAsked
+  jump-asked o = rw (end-jump w o)
+
+forks-asked : (𝒯 : Tables) (P : Routine) (b : ℕ) (e : End) (takenRow untakenRow : List ℕ) (st : Reading) → EdgeRows P b e takenRow untakenRow
+    → forks e ≡ true → forkAsked 𝒯 (st .registers) (taken e st) takenRow ≡ edgesAsked 𝒯 P e st
+unfolding forkAsked edgesAsked
+forks-asked 𝒯 P b halt t u st l f = absurd (false≢true f)
+forks-asked 𝒯 P b (jump k) t u st l f = absurd (false≢true f)
+forks-asked 𝒯 P b (ifEqual x k c) t u st l f = rw (l .target)
+forks-asked 𝒯 P b (ifLess x y c) t u st l f = rw (l .target)
+
+pub fork-asked : (𝒯 : Tables) (P : Routine) (b w : ℕ) (takenRow untakenRow : List ℕ) (st : Reading)
+    → EdgeRows P b (endOf w) takenRow untakenRow → 10 < opcodeOf w → opcodeOf w ≤ 12
+    → (t : EdgeFacts) (words frames constants : List ℕ) → Tells t words frames constants (endOf w) st
+    → forkAsked 𝒯 (st .registers) (takenIn t words frames constants) takenRow ≡ edgesAsked 𝒯 P (endOf w) st
+fork-asked 𝒯 P b w takenRow untakenRow st l h k t words frames constants T =
+    rw (T .on-taken) (forks-asked 𝒯 P b (endOf w) takenRow untakenRow st l (branches w h k))
+
+-- ---- a branch
+
 -- as `fork` asks them, of words in which first the one type word is put and then the other
 module _ (𝒯 : Tables) (place : Question → Refusal) (registers words frames constants row row′ : List ℕ) (t : EdgeFacts) (i : ℕ) (ei : i ≡ t .v)
     (f : Bool) (ef : f ≡ rowFits 𝒯 (valuesOf (set words i (t .taken)) frames constants (t .tested) (t .equal)) 8 row registers) where
@@ -275,6 +326,16 @@ module _ (𝒯 : Tables) (place : Question → Refusal) (registers words frames 
     pub fork-both : h ≡ true → numbered place 0 tt ≡ both
     unfolding forkAsk numbered provided
     fork-both p = rw (← ei, ← ef, q, ← second, p)
+
+module _ (𝒯 : Tables) (registers words frames constants row : List ℕ) (t : EdgeFacts) (i : ℕ) (ei : i ≡ t .v)
+    (f : Bool) (ef : f ≡ rowFits 𝒯 (valuesOf (set words i (t .taken)) frames constants (t .tested) (t .equal)) 8 row registers) where
+  pub one-asked : f ≡ false → 8 ≡ forkAsked 𝒯 registers (takenIn t words frames constants) row
+  unfolding forkAsked provided
+  one-asked q = rw (← ei, ← ef, q)
+
+  pub both-asked : f ≡ true → 16 ≡ forkAsked 𝒯 registers (takenIn t words frames constants) row
+  unfolding forkAsked provided
+  both-asked q = rw (← ei, ← ef, q)
 
 -- ---- what the edges of a word tell
 

@@ -61,6 +61,10 @@ forkAsk 𝒯 place registers onTaken takenRow onUntaken untakenRow =
     ask (rowFits 𝒯 onTaken 8 takenRow registers) (place q14) λ _.
     asked (rowFits 𝒯 onUntaken 8 untakenRow registers) (place q15)
 
+-- the fit questions that they put
+unfoldable pub forkAsked : Tables → List ℕ → Values → List ℕ → ℕ
+forkAsked 𝒯 registers onTaken takenRow = 8 + provided (rowFits 𝒯 onTaken 8 takenRow registers) 0 λ _. 8
+
 -- the annotations of the blocks that the end of block b leads to
 pub record EdgeRows (P : Routine) (b : ℕ) (e : End) (takenRow untakenRow : List ℕ) : Type 0 where
   pub target : P .annotation (targetOf e) ≡ takenRow

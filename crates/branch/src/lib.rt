@@ -11,17 +11,32 @@ ghost use Rattle.model.specs.Machine.{decode, wellFormed};
 ghost use Rattle.model.specs.Values.{typed};
 ghost use Rattle.model.specs.Reading.{below, notBelow, rowFits};
 ghost use Rattle.model.specs.Check.{readEdges};
+ghost use Rattle.model.specs.Cost.{edgesAsked};
 ghost use Rattle.instruction.specs.Rows.{opcodeRows};
 ghost use Rattle.instruction.specs.Form.{endOf};
 ghost use Rattle.known.specs.Numbers.{valuesOf, tablesIn, valuesIn};
 ghost use Rattle.access.specs.State.{numbered};
-ghost use Rattle.branch.specs.End.{readingIn, endNo, retyped, pastZero, nextKind, takenIn, untakenIn, Tells, forkAsk, EdgeRows};
+ghost use Rattle.branch.specs.End.{readingIn, endNo, retyped, pastZero, nextKind, takenIn, untakenIn, Tells, forkAsk, forkAsked, EdgeRows};
 use access::NO_BASE;
 use model::limit;
 use model::number::OPEN_RECORD;
 use model::number::PASSED;
 use model::number::TAKEN_EDGE;
 use model::number::UNTAKEN_EDGE;
+
+// What the end of a block comes to: the number of the first no, 0 where there is none, and how many fit questions were put.
+pub struct EndAnswer {
+    pub number: u32,
+    pub asked: u32,
+}
+
+// The fit questions that a block's end puts, one for each register on each edge, of which none is left out where an earlier one fails: of a
+// jump; of a branch whose taken edge is missed, so that the other is not put; of a branch whose taken edge is met.
+const OF_A_JUMP: u32 = 8;
+
+const OF_A_MISS: u32 = 8;
+
+const OF_A_BRANCH: u32 = 16;
 
 // The first no of Q7 to Q9 and Q13 at the last instruction of block b; base is that of the open record.
 pub fn may_end(
@@ -201,12 +216,15 @@ fn fork(
     t: EdgeFacts,
     taken: &[u32],
     untaken: &[u32],
-) -> u32
+) -> EndAnswer
     requires { ⌜ (t .equal ≤ 256) × (8 ≤ length (now taken)) × (8 ≤ length (now untaken)) ⌝ }
-    ensures { λ r. ⌜ ((place : Question → Refusal) (types : List ℕ) → numbered place r tt ≡ forkAsk (tablesIn types tags) place (now (registers .entry))
+    ensures { λ r. ⌜ ((place : Question → Refusal) (types : List ℕ)
+        → numbered place (r .number) tt ≡ forkAsk (tablesIn types tags) place (now (registers .entry))
         (takenIn t (now (words .entry)) (now (frames .entry)) (now (constants .entry))) (now (taken .entry))
         (untakenIn t (now (words .entry)) (now (frames .entry)) (now (constants .entry))) (now (untaken .entry)))
-        × (isAnswer r ≡ true) ⌝ }
+        × (isAnswer (r .number) ≡ true)
+        × ((types : List ℕ) → r .asked ≡ forkAsked (tablesIn types tags) (now (registers .entry))
+        (takenIn t (now (words .entry)) (now (frames .entry)) (now (constants .entry))) (now (taken .entry))) ⌝ }
 {
     let i = word::index(t.v);
     words[i] = t.taken;
@@ -220,13 +238,22 @@ fn fork(
         t.equal,
         taken,
     ) {
-        return TAKEN_EDGE;
+        return EndAnswer {
+            number: TAKEN_EDGE,
+            asked: OF_A_MISS,
+        };
     }
     words[i] = t.untaken;
     if !edge(tags, registers, words, frames, constants, 0, 0, untaken) {
-        return UNTAKEN_EDGE;
+        return EndAnswer {
+            number: UNTAKEN_EDGE,
+            asked: OF_A_BRANCH,
+        };
     }
-    PASSED
+    EndAnswer {
+        number: PASSED,
+        asked: OF_A_BRANCH,
+    }
 }
 
 // Q14 and Q15 at a word that ends a block. taken and untaken are the annotations of the blocks that it leads to; where an edge is
@@ -240,23 +267,35 @@ pub fn edges(
     word: u32,
     taken: &[u32],
     untaken: &[u32],
-) -> u32
+) -> EndAnswer
     requires { ⌜ (wellFormed word ≡ true) × (0 < opcodeOf word → 9 < opcodeOf word) × (8 ≤ length (now taken)) × (8 ≤ length (now untaken)) ⌝ }
     ensures { λ r. ⌜ ((P : Routine) (b : ℕ) → EdgeRows P b (endOf word) (now (taken .entry)) (now (untaken .entry))
         → (place : Question → Refusal) (types views fields : List ℕ) (since base : ℕ)
-        → numbered place r tt ≡ readEdges (tablesIn types tags) P place (suc b) (endOf word)
+        → numbered place (r .number) tt ≡ readEdges (tablesIn types tags) P place (suc b) (endOf word)
         (readingIn registers words frames constants views fields since base))
-        × (isAnswer r ≡ true) ⌝ }
+        × (isAnswer (r .number) ≡ true)
+        × ((P : Routine) (b : ℕ) → EdgeRows P b (endOf word) (now (taken .entry)) (now (untaken .entry))
+        → (types views fields : List ℕ) (since base : ℕ)
+        → r .asked ≡ edgesAsked (tablesIn types tags) P (endOf word) (readingIn registers words frames constants views fields since base)) ⌝ }
 {
     let op = word::opcode(word);
     if op == instruction::HALT {
-        return PASSED;
+        return EndAnswer {
+            number: PASSED,
+            asked: 0,
+        };
     }
     if op == instruction::JUMP {
         if edge(tags, registers, words, frames, constants, 0, 0, taken) {
-            return PASSED;
+            return EndAnswer {
+                number: PASSED,
+                asked: OF_A_JUMP,
+            };
         }
-        return TAKEN_EDGE;
+        return EndAnswer {
+            number: TAKEN_EDGE,
+            asked: OF_A_JUMP,
+        };
     }
     let t = learn(registers, words, frames, constants, word);
     fork(tags, registers, words, frames, constants, t, taken, untaken)

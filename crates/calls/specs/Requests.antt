@@ -4,10 +4,11 @@ use mathlib.Core.List.{List, [], _∷_}
 use Prim.Native.Nat.{ℕ}
 use lib.ListN.{getD}
 use Rattle.model.specs.declared.Verdict.{Verdict}
+use Rattle.model.specs.declared.CheckAnswer.{CheckAnswer}
 use Rattle.model.specs.declared.RunAnswer.{RunAnswer}
 use Rattle.model.specs.Table.{codeOf}
 use Rattle.model.specs.Machine.{Ready, ready, Run, run, returned}
-use Rattle.model.specs.Check.{check}
+use Rattle.model.specs.Cost.{checkAnswer}
 use Rattle.model.specs.MemoryCheck.{memoryCheck, entryCheck}
 
 -- R0 .. R7, the words of a row after its first
@@ -32,8 +33,8 @@ module _ (parts : List (List ℕ)) where
   part i = getD parts i []
 
   -- TYPES TAGS BLOCKS CODE
-  abbrev pub checkVerdict : Verdict
-  checkVerdict = check (part 0) (part 1) (codeOf (part 2) (part 3))
+  abbrev pub checkOf : CheckAnswer
+  checkOf = checkAnswer (part 0) (part 1) (codeOf (part 2) (part 3))
 
   -- TYPES TAGS ALLOCATIONS MEMORY
   abbrev pub memoryVerdict : Verdict

@@ -2,9 +2,10 @@
 ghost use mathlib.Core.Path.{_≡_};
 ghost use lib.ListN.{length};
 ghost use Rattle.protocol.specs.Said.{partsIn};
-ghost use Rattle.calls.specs.Requests.{checkVerdict, memoryVerdict, entryVerdict, Ran};
+ghost use Rattle.calls.specs.Requests.{checkOf, memoryVerdict, entryVerdict, Ran};
 use crate::parts::registers;
 use crate::parts::word;
+use model::CheckAnswer;
 use model::RunAnswer;
 use model::Verdict;
 
@@ -14,8 +15,8 @@ pub use parts::long;
 pub use parts::part;
 
 // TYPES TAGS BLOCKS CODE
-pub fn check(words: &[u32], ends: &[usize], marked: usize) -> Verdict
-    ensures { λ r. ⌜ r ≡ checkVerdict (partsIn (now (words .entry)) (now (ends .entry)) marked) ⌝ }
+pub fn check(words: &[u32], ends: &[usize], marked: usize) -> CheckAnswer
+    ensures { λ r. ⌜ r ≡ checkOf (partsIn (now (words .entry)) (now (ends .entry)) marked) ⌝ }
 {
     let types = part(words, ends, marked, 0);
     let tags = part(words, ends, marked, 1);

@@ -24,9 +24,9 @@ use Rattle.embed.proofs.ramdulsi_run.Reads as run-read
 abbrev Lent : Type 0
 Lent = RefT (List ℕ)
 
-module _ (κs : Lfts 5) (types tags blocks code place : Lent) where
+module _ (κs : Lfts 5) (types tags blocks code verdict : Lent) where
   abbrev to-check : Args ramdulsi_check.signature κs
-  to-check = (types, (tags, (blocks, (code, (place, tt)))))
+  to-check = (types, (tags, (blocks, (code, (verdict, tt)))))
 
   pub check-asks : check-read.Asked κs to-check ≡ Unit {0}
   check-asks = refl

@@ -6,7 +6,7 @@ use native.Mathlib.Omega.{arith}
 use Rattle.model.specs.declared.RunAnswer.{RunAnswer}
 use Rattle.model.specs.Table.{Code}
 use Rattle.model.specs.Machine.{run, returned, Ready}
-use Rattle.model.specs.Check.{check}
+use Rattle.model.specs.Cost.{checkAnswer}
 use Rattle.model.specs.MemoryCheck.{memoryCheck, entryCheck}
 use Rattle.model.specs.Turns.{Task, World}
 use Rattle.loader.specs.Delivery.{RunGave, Passed, Calls, Delivers, Delivered, none as no-call, checked as check-made, memoryChecked as memory-made}
@@ -42,7 +42,7 @@ module _ (types tags allocations memory : List ℕ) (n : ℕ) (tasks : ℕ → T
   passed-by-calls S =
       record {
         memoryPassed = let (place, left, (e, l)) = S .memoryPassed in (memoryCheck types tags allocations memory, left, (refl, l), sym (e .0));
-        accepted = λ i h. let (place, e) = S .accepted i h in (check types tags (tasks i .code), refl, sym (e .0));
+        accepted = λ i h. let (verdict, e) = S .accepted i h in (checkAnswer types tags (tasks i .code), refl, sym (e .0));
         eight = S .eight;
         entered = λ i h. let (m, place, left, (e, l)) = S .entered i h in
             (m, entryCheck types tags allocations m (tasks i .code) (tasks i .start), left, (refl, l), sym (e .0));
@@ -54,7 +54,7 @@ module _ (types tags allocations memory : List ℕ) (n : ℕ) (tasks : ℕ → T
   -- a list of calls for C leads where a list of loader's calls leads
   pub leads : {w : World} → CCalls types tags allocations memory n tasks w → Reached w
   leads none = no-call
-  leads (checked types' tags' C r place p q) = check-made types' tags' C (check types' tags' C) (leads p) refl
+  leads (checked types' tags' C r verdict p q) = check-made types' tags' C (checkAnswer types' tags' C) (leads p) refl
   leads (memoryChecked {w = w} types' tags' allocations' r place left p q) =
       memory-made types' tags' allocations' (memoryCheck types' tags' allocations' (w .memory)) left (leads p) (refl, q .1)
   leads (entryChecked {w = w} types' tags' allocations' C g r place left p q) =
@@ -69,7 +69,7 @@ module _ (types tags allocations memory : List ℕ) (n : ℕ) (tasks : ℕ → T
       → Delivers types tags allocations memory n tasks (leads calls) → DeliversInC types tags allocations memory n tasks calls
   unfolding leads
   delivers none D = D
-  delivers (checked types' tags' C r place p q) D = delivers p D
+  delivers (checked types' tags' C r verdict p q) D = delivers p D
   delivers (memoryChecked types' tags' allocations' r place left p q) (D, s, h) = (delivers p D, s, h)
   delivers (entryChecked types' tags' allocations' C g r place left p q) (D, s, h) = (delivers p D, s, h)
   delivers (turned i budget g r left registers answer p e q) (D, t, h) = (delivers p D, t, h)

@@ -5,6 +5,7 @@ use Prim.Native.Nat.{ℕ, _/_, _%_}
 use denote.Ref.{RefT, now}
 use denote.Triple.Both.{Both}
 use Rattle.model.specs.declared.Verdict.{Verdict}
+use Rattle.model.specs.declared.CheckAnswer.{CheckAnswer}
 use Rattle.model.specs.declared.RunAnswer.{RunAnswer}
 use Rattle.model.specs.Machine.{Run, returned}
 
@@ -23,6 +24,14 @@ placeOf v = v .first ∷ v .second ∷ []
 -- a check returns its number, and leaves its place
 abbrev pub Answers : ℕ → Lent → Verdict → Type 0
 Answers r place v = (r ≡ v .number) × (now (place .exit) ≡ placeOf v)
+
+-- the place and the count of a routine's verdict
+abbrev pub placeAndCount : CheckAnswer → List ℕ
+placeAndCount a = a .first ∷ a .second ∷ a .asked ∷ []
+
+-- the check of a routine leaves them both
+abbrev pub AnswersCounting : ℕ → Lent → CheckAnswer → Type 0
+AnswersCounting r verdict a = (r ≡ a .number) × (now (verdict .exit) ≡ placeAndCount a)
 
 -- block, code index, and blocks finished by low and high word
 abbrev pub endedAt : RunAnswer → List ℕ

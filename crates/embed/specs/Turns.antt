@@ -8,19 +8,19 @@ use Rattle.model.specs.declared.Verdict.{Verdict}
 use Rattle.model.specs.declared.RunAnswer.{RunAnswer}
 use Rattle.model.specs.Table.{Code}
 use Rattle.model.specs.Machine.{run, returned, Ready}
-use Rattle.model.specs.Check.{check}
+use Rattle.model.specs.Cost.{checkAnswer}
 use Rattle.model.specs.MemoryCheck.{memoryCheck, entryCheck}
 use Rattle.model.specs.Turns.{Task, waiting, World, running, settled, standingBy, atStart, Allowed}
 use Rattle.loader.specs.Delivery.{RunSays, with, Holds, TurnHolds}
-use Rattle.embed.specs.Lent.{placeOf, endedAt}
+use Rattle.embed.specs.Lent.{placeOf, placeAndCount, endedAt}
 
 -- What a call gave back for what it was handed: its number, the words that it filled, and what it left of the memory that it was lent. These
 -- are the contracts of src/lib.rt, as proofs/Contracts.antt shows.
 abbrev pub Said : Verdict → (r : ℕ) → (place : List ℕ) → Type 0
 Said v r place = (r ≡ v .number) × (place ≡ placeOf v)
 
-abbrev pub CheckSaid : (types tags : List ℕ) → Code → (r : ℕ) → (place : List ℕ) → Type 0
-CheckSaid types tags C r place = Said (check types tags C) r place
+abbrev pub CheckSaid : (types tags : List ℕ) → Code → (r : ℕ) → (verdict : List ℕ) → Type 0
+CheckSaid types tags C r verdict = (r ≡ checkAnswer types tags C .number) × (verdict ≡ placeAndCount (checkAnswer types tags C))
 
 abbrev pub MemoryCheckSaid : (types tags allocations memory : List ℕ) → (r : ℕ) → (place left : List ℕ) → Type 0
 MemoryCheckSaid types tags allocations memory r place left = Said (memoryCheck types tags allocations memory) r place × (left ≡ memory)
@@ -56,14 +56,14 @@ module _ (types tags allocations memory : List ℕ) (n : ℕ) (tasks : ℕ → T
   -- The checks returned 0: of memory, of each routine, and of its eight registers over some memory with these allocations.
   pub record PassedInC : Type 0 where
     pub memoryPassed : (place left : List ℕ) × MemoryCheckSaid types tags allocations memory 0 place left
-    pub accepted : (i : ℕ) → i < n → (place : List ℕ) × CheckSaid types tags (tasks i .code) 0 place
+    pub accepted : (i : ℕ) → i < n → (verdict : List ℕ) × CheckSaid types tags (tasks i .code) 0 verdict
     pub eight : (i : ℕ) → i < n → length (tasks i .start .registers) ≡ 8
     pub entered : (i : ℕ) → i < n → (m place left : List ℕ) × EntryCheckSaid types tags allocations m (tasks i .code) (tasks i .start) 0 place left
 
   -- Lists of calls, and the world that each leads to, as in Delivery of crate loader.
   pub data CCalls : World → Type 0 where
     none : CCalls (atStart tasks n memory)
-    checked : {w : World} (types' tags' : List ℕ) (C : Code) (r : ℕ) (place : List ℕ) → CCalls w → CheckSaid types' tags' C r place → CCalls w
+    checked : {w : World} (types' tags' : List ℕ) (C : Code) (r : ℕ) (verdict : List ℕ) → CCalls w → CheckSaid types' tags' C r verdict → CCalls w
     memoryChecked : {w : World} (types' tags' allocations' : List ℕ) (r : ℕ) (place left : List ℕ) → CCalls w
         → MemoryCheckSaid types' tags' allocations' (w .memory) r place left → CCalls (with w left)
     entryChecked : {w : World} (types' tags' allocations' : List ℕ) (C : Code) (g : Ready) (r : ℕ) (place left : List ℕ) → CCalls w
@@ -81,7 +81,7 @@ module _ (types tags allocations memory : List ℕ) (n : ℕ) (tasks : ℕ → T
   -- anything.
   abbrev pub DeliversInC : {w : World} → CCalls w → Type 0
   DeliversInC none = AllHolds (atStart tasks n memory)
-  DeliversInC (checked types' tags' C r place p q) = DeliversInC p
+  DeliversInC (checked types' tags' C r verdict p q) = DeliversInC p
   DeliversInC (memoryChecked {w = w} types' tags' allocations' r place left p q) = DeliversInC p × (with w left ≡ w) × AllHolds (with w left)
   DeliversInC (entryChecked {w = w} types' tags' allocations' C g r place left p q) = DeliversInC p × (with w left ≡ w) × AllHolds (with w left)
   DeliversInC (turned {w = w} i budget g r left registers answer p e q) =

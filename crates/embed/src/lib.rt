@@ -3,9 +3,10 @@
 ghost use mathlib.Core.Path.{_≡_};
 ghost use Rattle.model.specs.Table.{codeOf};
 ghost use Rattle.model.specs.Machine.{run, ready};
-ghost use Rattle.model.specs.Check.{check};
+ghost use Rattle.model.specs.Cost.{checkAnswer};
 ghost use Rattle.model.specs.MemoryCheck.{memoryCheck, entryCheck};
-ghost use Rattle.embed.specs.Lent.{given, Answers, endedAt, Runs};
+ghost use Rattle.embed.specs.Lent.{given, Answers, AnswersCounting, endedAt, Runs};
+use model::CheckAnswer;
 use model::RunAnswer;
 use model::Verdict;
 
@@ -15,6 +16,14 @@ fn placed(v: Verdict, place: &mut [u32; 2]) -> u32
 {
     *place = [v.first, v.second];
     v.number
+}
+
+// The place of a routine's verdict and its count in three lent words, and its number.
+fn counted(a: CheckAnswer, verdict: &mut [u32; 3]) -> u32
+    ensures { λ r. ⌜ AnswersCounting r verdict a ⌝ }
+{
+    *verdict = [a.first, a.second, a.asked];
+    a.number
 }
 
 // What a run returned, beside its number and registers, in four lent words.
@@ -32,12 +41,12 @@ pub extern "C" fn ramdulsi_check(
     tags: &[u32],
     blocks: &[u32],
     code: &[u32],
-    place: &mut [u32; 2],
+    verdict: &mut [u32; 3],
 ) -> u32
-    ensures { λ r. ⌜ Answers r place (check (given types) (given tags) (codeOf (given blocks) (given code))) ⌝ }
+    ensures { λ r. ⌜ AnswersCounting r verdict (checkAnswer (given types) (given tags) (codeOf (given blocks) (given code))) ⌝ }
 {
-    let v = loader::check(types, tags, blocks, code);
-    placed(v, place)
+    let a = loader::check(types, tags, blocks, code);
+    counted(a, verdict)
 }
 
 #[no_mangle]

@@ -1,13 +1,15 @@
 -- What the answer of each call says: demands 1 and 2 of the definitions, of the calls themselves.
-use mathlib.Core.Path.{_≡_, sym, ap, _∙_}
+use mathlib.Core.Path.{_≡_, refl, sym, ap, _∙_}
 use mathlib.Core.List.{List}
 use Prim.Native.Nat.{ℕ}
 use Rattle.model.specs.declared.RunAnswer.{RunAnswer}
 use Rattle.model.specs.Table.{Code, Routine, routineOf}
 use Rattle.model.specs.Machine.{State, Run, answerAt, run, returned, Ready}
+use Rattle.model.specs.Cost.{checkAnswer}
 use Rattle.model.specs.Faults.{NeverBegins, Halts, Pauses, Faults}
 use Rattle.model.proofs.RunEnds.{run-keeps, run-exact}
 use Rattle.model.proofs.Exact.{demand-2}
+use Rattle.model.proofs.Cost.{costs}
 use Rattle.loader.specs.Delivery.{RunGave, Shows, RefusalLeft, FaultLeft, PauseLeft, HaltLeft, RunSays, Answered}
 
 module _ (C : Code) (memory : List ℕ) (g : Ready) (budget : ℕ) (a : RunAnswer) (left : List ℕ) (q : RunGave C memory g budget a left) where
@@ -69,7 +71,9 @@ module _ (C : Code) (memory : List ℕ) (g : Ready) (budget : ℕ) (a : RunAnswe
 pub answered : Answered
 answered =
     record {
-      checks = λ types tags C v q. let E = demand-2 .checks types tags C in rw q (E .accepts, E .names);
+      checks = λ types tags C v q.
+          let E = demand-2 .checks types tags C in
+          rw q (unfold checkAnswer in (E .accepts, E .names, refl, costs types tags C .bound));
       memoryChecks = λ types tags allocations memory v left q.
           let E = demand-2 .memoryChecks types tags allocations memory in rw (q .0) (E .passes, E .names, q .1);
       entryChecks = λ types tags allocations memory C g v left q.

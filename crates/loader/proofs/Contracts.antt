@@ -9,6 +9,7 @@ use denote.Ref.{RefT, now}
 use denote.Triple.Clauses.{Lasts, atExit}
 use denote.Triple.Entry.{Args}
 use Rattle.model.specs.declared.Verdict.{Verdict}
+use Rattle.model.specs.declared.CheckAnswer.{CheckAnswer}
 use Rattle.model.specs.declared.RunAnswer.{RunAnswer}
 use Rattle.model.specs.Table.{codeOf}
 use Rattle.model.specs.Machine.{ready}
@@ -33,7 +34,7 @@ module _ (κs : Lfts 4) (types tags blocks code : Lent) where
   pub check-asks : check-read.Asked κs to-check ≡ Unit {0}
   check-asks = refl
 
-  pub check-gives : (v : Verdict) (last : Lasts check.ended κs to-check)
+  pub check-gives : (v : CheckAnswer) (last : Lasts check.ended κs to-check)
       → check-read.Learnt κs to-check v (atExit check.ended κs to-check last) ↔ CheckGave (now types) (now tags) (codeOf (now blocks) (now code)) v
   check-gives v last = (λ l. l, λ g. g)
 

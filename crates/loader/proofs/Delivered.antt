@@ -5,18 +5,26 @@ use mathlib.Core.Bool.{true}
 use Prim.Native.Nat.{ℕ}
 use lib.Dec.{eqb}
 use Rattle.model.specs.Question.{_or_}
+use Rattle.model.specs.Table.{Code}
+use Rattle.model.specs.Check.{check}
+use Rattle.model.specs.Cost.{checkAnswer}
 use Rattle.model.specs.Machine.{returned, Ready, begin}
 use Rattle.model.specs.Turns.{Task, World, waiting, Call, turn, running, settled, standingBy, turnRun, turned, afterCall}
 use Rattle.model.specs.Safety.{Demand3, Checked, AllFit, Safe, Ends, pauses, halting}
 use Rattle.model.specs.declared.Verdict.{Verdict}
+use Rattle.model.specs.declared.CheckAnswer.{CheckAnswer}
 use Rattle.model.specs.declared.RunAnswer.{RunAnswer}
 use Rattle.model.proofs.Safe.{demand-3}
 use Rattle.model.proofs.ChecksAgain.{memory-again, entry-again}
-use Rattle.loader.specs.Delivery.{RunGave, Passed, with, Calls, none, checked as check-made, memoryChecked, entryChecked}
+use Rattle.loader.specs.Delivery.{CheckGave, RunGave, Passed, with, Calls, none, checked as check-made, memoryChecked, entryChecked}
 use Rattle.loader.specs.Delivery.{turned as turn-made, ran, Holds, TurnHolds, Delivers, Delivered}
 
 number-of : {v u : Verdict} → v ≡ u → u .number ≡ 0 → v .number ≡ 0
 number-of e z = ap (λ (v : Verdict). v .number) e ∙ z
+
+check-number : (types tags : List ℕ) (C : Code) (v : CheckAnswer) → CheckGave types tags C v → v .number ≡ 0 → check types tags C .number ≡ 0
+unfolding checkAnswer
+check-number types tags C v e z = sym (ap (λ (a : CheckAnswer). a .number) e) ∙ z
 
 module _ (types tags allocations memory : List ℕ) (n : ℕ) (tasks : ℕ → Task) (S : Passed types tags allocations memory n tasks) where
   abbrev Reached : World → Type 0
@@ -29,7 +37,7 @@ module _ (types tags allocations memory : List ℕ) (n : ℕ) (tasks : ℕ → T
   checked =
       record {
         memoryPassed = let (v, m, g, z) = S .memoryPassed in number-of (sym (g .0)) z;
-        accepted = λ i h. let (v, g, z) = S .accepted i h in number-of (sym g) z;
+        accepted = λ i h. let (v, g, z) = S .accepted i h in check-number types tags (tasks i .code) v g z;
         eight = S .eight;
         entered = λ i h. let (m, v, k, g, z) = S .entered i h in (m, number-of (sym (g .0)) z);
       }

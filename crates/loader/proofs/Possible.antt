@@ -7,7 +7,7 @@ use Prim.Native.Nat.{ℕ}
 use Rattle.model.specs.declared.RunAnswer.{RunAnswer}
 use Rattle.model.specs.Table.{Code}
 use Rattle.model.specs.Machine.{run, returned, Ready}
-use Rattle.model.specs.Check.{check}
+use Rattle.model.specs.Cost.{checkAnswer}
 use Rattle.model.specs.Turns.{Task, World, Standing, waiting, done, Call, turn, checking, checkingMemory, checkingEntry, running, turnRun, turned}
 use Rattle.model.specs.Turns.{afterCall, Allowed}
 use Rattle.model.specs.Exactness.{ShowsNothing}
@@ -23,7 +23,7 @@ module _ (types tags allocations memory : List ℕ) (n : ℕ) (tasks : ℕ → T
   passed C =
       record {
         memoryPassed = (_, memory, (refl, refl), C .memoryPassed);
-        accepted = λ i h. (_, refl, C .accepted i h);
+        accepted = λ i h. (_, refl, unfold checkAnswer in (C .accepted i h));
         eight = C .eight;
         entered = λ i h. let (m, z) = C .entered i h in (m, _, m, (refl, refl), z);
       }
@@ -40,7 +40,7 @@ module _ (types tags allocations memory : List ℕ) (n : ℕ) (tasks : ℕ → T
   pub call-made : (c : Call) (w : World) → Allowed c w → Reached w → Reached (afterCall tasks c w)
   unfolding afterCall
   call-made (turn i budget) w o p = turn-made-of w i budget (w .standing i) refl p
-  call-made (checking x y C) w o p = check-made x y C (check x y C) p refl
+  call-made (checking x y C) w o p = check-made x y C (checkAnswer x y C) p refl
   call-made (checkingMemory x y z t) w o p = p
   call-made (checkingEntry x y z t C g) w o p = p
   call-made (running C g budget) w o p =

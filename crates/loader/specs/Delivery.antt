@@ -4,15 +4,16 @@ use mathlib.Core.Path.{_≡_}
 use mathlib.Core.Logic.{_↔_}
 use mathlib.Core.Bool.{true}
 use mathlib.Core.List.{List}
-use Prim.Native.Nat.{ℕ, _<_}
+use Prim.Native.Nat.{ℕ, _*_, _≤_, _<_}
 use lib.Dec.{eqb}
 use lib.ListN.{length}
 use Rattle.model.specs.declared.Verdict.{Verdict}
+use Rattle.model.specs.declared.CheckAnswer.{CheckAnswer}
 use Rattle.model.specs.declared.RunAnswer.{RunAnswer}
 use Rattle.model.specs.Question.{_or_, Question, numberOf, Refusal, refusing, FirstRefused}
 use Rattle.model.specs.Table.{Code, Routine, routineOf}
 use Rattle.model.specs.Machine.{State, indexOf, step, halts, faults, runQuestions, run, returned, Ready, ready}
-use Rattle.model.specs.Check.{check}
+use Rattle.model.specs.Cost.{askedOf, examinedOf, verdictIn, checkAnswer}
 use Rattle.model.specs.MemoryCheck.{memoryCheck, entryCheck}
 use Rattle.model.specs.Faults.{isOpening, isFault, Through}
 use Rattle.model.specs.Exactness.{Accepts, CheckNo, MemoryPasses, MemoryNo, EntryPasses, EntryNo, Finishes}
@@ -21,8 +22,8 @@ use Rattle.model.specs.Safety.{AllFit, Visits, TurnSafe}
 
 -- What a call gave back for what it was handed, and what it left of the memory that it was lent: the contracts of src/lib.rt, as
 -- proofs/Contracts.antt shows.
-abbrev pub CheckGave : (types tags : List ℕ) → Code → Verdict → Type 0
-CheckGave types tags C v = v ≡ check types tags C
+abbrev pub CheckGave : (types tags : List ℕ) → Code → CheckAnswer → Type 0
+CheckGave types tags C v = v ≡ checkAnswer types tags C
 
 abbrev pub MemoryCheckGave : (types tags allocations memory : List ℕ) → Verdict → (left : List ℕ) → Type 0
 MemoryCheckGave types tags allocations memory v left = (v ≡ memoryCheck types tags allocations memory) × (left ≡ memory)
@@ -89,8 +90,9 @@ module _ (C : Code) (memory : List ℕ) (g : Ready) (budget : ℕ) (a : RunAnswe
     pub halted : a .number ≡ 0 → HaltLeft
 
 pub record Answered : Type 0 where
-  pub checks : (types tags : List ℕ) (C : Code) (v : Verdict) → CheckGave types tags C v
-      → ((v .number ≡ 0) ↔ Accepts types tags C) × ((r : Refusal) → (v ≡ refusing r) ↔ CheckNo types tags C r)
+  pub checks : (types tags : List ℕ) (C : Code) (v : CheckAnswer) → CheckGave types tags C v
+      → ((v .number ≡ 0) ↔ Accepts types tags C) × ((r : Refusal) → (verdictIn v ≡ refusing r) ↔ CheckNo types tags C r)
+      × (v .asked ≡ askedOf types tags C) × (v .asked ≤ 16 * examinedOf types tags C)
   pub memoryChecks : (types tags allocations memory : List ℕ) (v : Verdict) (left : List ℕ) → MemoryCheckGave types tags allocations memory v left
       → ((v .number ≡ 0) ↔ MemoryPasses types tags allocations memory)
       × ((r : Refusal) → (v ≡ refusing r) ↔ MemoryNo types tags allocations memory r) × (left ≡ memory)
@@ -110,7 +112,7 @@ module _ (types tags allocations memory : List ℕ) (n : ℕ) (tasks : ℕ → T
   -- The checks gave 0: of memory, of each routine, and of its eight registers over some memory with these allocations.
   pub record Passed : Type 0 where
     pub memoryPassed : (v : Verdict) × (left : List ℕ) × MemoryCheckGave types tags allocations memory v left × (v .number ≡ 0)
-    pub accepted : (i : ℕ) → i < n → (v : Verdict) × CheckGave types tags (tasks i .code) v × (v .number ≡ 0)
+    pub accepted : (i : ℕ) → i < n → (v : CheckAnswer) × CheckGave types tags (tasks i .code) v × (v .number ≡ 0)
     pub eight : (i : ℕ) → i < n → length (tasks i .start .registers) ≡ 8
     pub entered : (i : ℕ) → i < n → (m : List ℕ) × (v : Verdict) × (left : List ℕ)
         × EntryCheckGave types tags allocations m (tasks i .code) (tasks i .start) v left × (v .number ≡ 0)
@@ -119,7 +121,7 @@ module _ (types tags allocations memory : List ℕ) (n : ℕ) (tasks : ℕ → T
   -- it stands; a check goes over any tables. A call over another memory leads nowhere else; the turn of a halted routine is no call.
   pub data Calls : World → Type 0 where
     none : Calls (atStart tasks n memory)
-    checked : {w : World} (types' tags' : List ℕ) (C : Code) (v : Verdict) → Calls w → CheckGave types' tags' C v → Calls w
+    checked : {w : World} (types' tags' : List ℕ) (C : Code) (v : CheckAnswer) → Calls w → CheckGave types' tags' C v → Calls w
     memoryChecked : {w : World} (types' tags' allocations' : List ℕ) (v : Verdict) (left : List ℕ) → Calls w
         → MemoryCheckGave types' tags' allocations' (w .memory) v left → Calls (with w left)
     entryChecked : {w : World} (types' tags' allocations' : List ℕ) (C : Code) (g : Ready) (v : Verdict) (left : List ℕ) → Calls w

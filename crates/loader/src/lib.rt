@@ -4,14 +4,16 @@
 ghost use mathlib.Core.Path.{_≡_};
 ghost use Rattle.model.specs.Table.{codeOf};
 ghost use Rattle.model.specs.Machine.{run, ready, returned};
-ghost use Rattle.model.specs.Check.{check};
+ghost use Rattle.model.specs.Cost.{checkAnswer};
 ghost use Rattle.model.specs.MemoryCheck.{memoryCheck, entryCheck};
+use model::CheckAnswer;
 use model::RunAnswer;
 use model::Verdict;
 
-// Whether a routine is accepted over a type and a tag table; else the number and place of the first question with a no.
-pub fn check(types: &[u32], tags: &[u32], blocks: &[u32], code: &[u32]) -> Verdict
-    ensures { λ r. ⌜ r ≡ check (now (types .entry)) (now (tags .entry)) (codeOf (now (blocks .entry)) (now (code .entry))) ⌝ }
+// Whether a routine is accepted over a type and a tag table; else the number and place of the first question with a no. Either way, how
+// many fit questions were put.
+pub fn check(types: &[u32], tags: &[u32], blocks: &[u32], code: &[u32]) -> CheckAnswer
+    ensures { λ r. ⌜ r ≡ checkAnswer (now (types .entry)) (now (tags .entry)) (codeOf (now (blocks .entry)) (now (code .entry))) ⌝ }
 {
     verify::check(types, tags, blocks, code)
 }

@@ -1,9 +1,10 @@
--- The cases marked * hold, and so do those that tell wrong readings apart, and those of cards 13 and 1: each is computed.
+-- The cases marked * hold, and so do those that tell wrong readings apart, and those of cards 13, 1 and 9: each is computed.
 use mathlib.Core.Path.{refl}
 use Rattle.model.specs.Cases.{Cases}
 use Rattle.model.specs.Misreadings.{Misreadings}
 use Rattle.model.specs.Chains.{ChainCases}
 use Rattle.model.specs.Locks.{LockCases}
+use Rattle.model.specs.Cost.{CostCases}
 use Rattle.model.proofs.Compute.{computed}
 
 pub cases-hold : Cases
@@ -116,4 +117,27 @@ locks-hold =
       unmet = refl;
       entered = refl;
       notEntered = refl;
+    }
+
+pub costs-hold : CostCases
+unfolding computed
+costs-hold =
+    record {
+      bothEdges = (refl, refl);
+      untakenFails = (refl, refl);
+      boundMet = (refl, refl);
+      takenFails = (refl, refl);
+      jumpMet = (refl, refl);
+      jumpMissed = (refl, refl);
+      bothStores = (refl, refl);
+      firstFieldFails = (refl, refl);
+      leftOpen = (refl, refl);
+      sizeOne = (refl, refl);
+      noReference = (refl, refl);
+      pastTheSize = (refl, refl);
+      lockedField = (refl, refl);
+      otherRecord = (refl, refl);
+      loadAlone = (refl, refl);
+      noTarget = (refl, refl);
+      byATable = (refl, refl);
     }

@@ -9,7 +9,7 @@ use lib.Dec.{ltb}
 use lib.ListN.{length, getD}
 use borrow.Author.Tests.{lt-ltb, le-ltb, eqb-true, eqb-false}
 use Rattle.model.specs.declared.Reference.the-variants.{To}
-use Rattle.model.specs.Question.{pick, Outcome, ok, provided}
+use Rattle.model.specs.Question.{pick, Outcome, ok, provided, refused}
 use Rattle.model.specs.Word.{sum}
 use Rattle.model.specs.Table.{Tables, Routine, lastAt}
 use Rattle.model.specs.Meaning.{Allocation}
@@ -239,7 +239,7 @@ module _ (𝒯 : Tables) (Is : Allocation) (memory₀ : List ℕ) (narrow : leng
       pub unwrapped : sum (reg (s .registers) b) c ≡ reg (s .registers) b + c
 
     field-ok : (s : State) (a : At s) (x : Access) (b c : ℕ) (st' : Reading) (k : ℕ → Outcome Reading) → b < 8
-        → onRecord 𝒯 (noAt 𝒯 P (s .block) (s .offset)) x (a .reading) b c k ≡ ok st' → Field s b c
+        → onRecord 𝒯 (λ q. refused (noAt 𝒯 P (s .block) (s .offset) q)) x (a .reading) b c k ≡ ok st' → Field s b c
     field-ok s a x b c st' k h q =
         let R = record-ok 𝒯 _ x (a .reading) b c st' k q in
         let ρ = valuation P (s .block) (a .origin) in

@@ -300,7 +300,7 @@ module _ (𝒯 : Tables) where
       record {
         reading = loaded (look 𝒯 st g v t) a c;
         is = sym (ok-same (R .rest)) ∙ ap (λ (y : Reading). loaded y a c) (look-apart st g v t) ∙ loaded-apart (look 𝒯 st g v t) a c;
-        reads = record-again 𝒯 place toLoad st b c t _ (reference-kept st g b t T (R .reference)) (R .below) refl (R .touch);
+        reads = record-again 𝒯 _ toLoad st b c t _ (reference-kept st g b t T (R .reference)) (R .below) refl (R .touch);
       }
   plain-kept place g (store a b c) st st' n T q = absurd n
 

@@ -32,6 +32,7 @@ pub mod CodeIndex
 pub mod Uses
 pub mod RunEnds
 pub mod Exactly
+pub mod Cost
 pub mod ReadingStates
 pub mod ReadingDecides
 pub mod ReadingEdges

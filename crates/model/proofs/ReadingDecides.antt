@@ -157,10 +157,10 @@ module _ (𝒯 : Tables) where
       }
 
   rule-access : (place : Question → Refusal) (x : Access) (st : Reading) (g b c t : ℕ) (k : ℕ → Outcome Reading) → Tidy st g → Accessible x st b c t
-      → onRecord 𝒯 place x st b c k ≡ k t
+      → onRecord 𝒯 (λ q. refused (place q)) x st b c k ≡ k t
   rule-access place x st g b c t k T A =
       let reference : referenceIn 𝒯 st b ≡ To t = reference-decides 𝒯 (st .values) g (T .values) (valueIn st b) t .1 (A .reference) in
-      record-again 𝒯 place x st b c t k reference (A .below) (rule-permits x t c (A .permitted)) (rule-touch st (valueIn st b) (A .touch))
+      record-again 𝒯 _ x st b c t k reference (A .below) (rule-permits x t c (A .permitted)) (rule-touch st (valueIn st b) (A .touch))
 
   sees-one : {j v t : ℕ} {s s₁ s₂ : BlockState} {fs fs' : List ℕ} → Sees 𝒯 j v t s fs s₁ → Sees 𝒯 j v t s fs' s₂ → (fs ≡ fs') × (s₁ ≡ s₂)
   sees-one {fs = fs} {fs' = fs'} (again e) (again f) = (Option·some-injective fs fs' (sym e ∙ f), refl)
@@ -403,7 +403,8 @@ module _ (𝒯 : Tables) where
     is-locked toLoad b c t F h p = absurd (false≢true (sym p))
     is-locked toStore b c t F h p = locked-field F h (not-false _ p)
 
-    access-refused : (x : Access) (b c : ℕ) (k : ℕ → Reading) (r : Refusal) → onRecord 𝒯 place x st b c (λ t. ok (k t)) ≡ refused r → RefusedAt x b c r
+    access-refused : (x : Access) (b c : ℕ) (k : ℕ → Reading) (r : Refusal)
+        → onRecord 𝒯 (λ q. refused (place q)) x st b c (λ t. ok (k t)) ≡ refused r → RefusedAt x b c r
     unfolding onRecord withReference provided
     access-refused x b c k r q = go (referenceIn 𝒯 st b) refl q
       where
@@ -428,7 +429,7 @@ module _ (𝒯 : Tables) where
             })
 
         go : (o : Reference) → referenceIn 𝒯 st b ≡ o
-            → withReference o (place q10) (asksBelow x b c (λ t. ok (k t))) ≡ refused r → RefusedAt x b c r
+            → withReference o (refused (place q10)) (asksBelow x b c (λ t. ok (k t))) ≡ refused r → RefusedAt x b c r
         go Nothing e q = record { question = q10; is = sym (refused-same {A = Reading} q); no = no-reference (no-fit (valueIn st b) e) }
         go (To t) e q =
             byTest (ltb c (𝒯 .size t)) (λ p. permitting t e (ltb-true _ _ p) (rw p at q))
@@ -439,12 +440,12 @@ module _ (𝒯 : Tables) where
             })
 
     refused-access : (x : Access) (b c : ℕ) (k : ℕ → Outcome Reading) (q : Question) → AccessNo 𝒯 (stateOf st) (valueIn st b) c x q
-        → onRecord 𝒯 place x st b c k ≡ refused (place q)
+        → onRecord 𝒯 (λ r. refused (place r)) x st b c k ≡ refused (place q)
     unfolding onRecord withReference provided
     refused-access x b c k q (no-reference N) = go (referenceIn 𝒯 st b) refl
       where
         go : (o : Reference) → referenceIn 𝒯 st b ≡ o
-            → withReference o (place q10) (asksBelow x b c k) ≡ refused (place q10)
+            → withReference o (refused (place q10)) (asksBelow x b c k) ≡ refused (place q10)
         go Nothing e = refl
         go (To t) e = absurd (N t (reference-fits 𝒯 (st .values) (valueIn st b) t e))
     refused-access x b c k q (past-the-size {t = t} F h) =

@@ -8,7 +8,7 @@ use Rattle.model.specs.declared.Verdict.{Verdict}
 use Rattle.model.specs.declared.Reference.{Reference}
 use Rattle.model.specs.declared.Reference.the-variants.{To, Nothing}
 use Rattle.model.specs.Question.{_or_, Question, q10, q11, q12, q13, q14, q15, q23, Refusal, refusal}
-use Rattle.model.specs.Question.{Outcome, ok, refused, ask, asked, then, firstNo, verdictOf}
+use Rattle.model.specs.Question.{Outcome, ok, refused, provided, ask, asked, then, firstNo, verdictOf}
 use Rattle.model.specs.Table.{Tables, tablesOf, locked, Code, Routine, routineOf, lastAt}
 unfoldable pub use Rattle.model.specs.Table.{tableQuestions, tablesAsk}
 use Rattle.model.specs.Machine.{Plain, constant, copy, add, subtract, multiply, divide, move, load, store, End, halt, jump, ifEqual, ifLess}
@@ -21,9 +21,10 @@ use Rattle.model.specs.Reading.{untaken}
 abbrev pub valueIn : Reading → ℕ → ℕ
 valueIn st r = getD (st .registers) r 0
 
-unfoldable pub withReference : {A : Type 0} → Reference → Refusal → (ℕ → Outcome A) → Outcome A
-withReference (To t) r k = k t
-withReference Nothing r k = refused r
+-- what follows for the record type of a reference, or else what having none comes to
+unfoldable pub withReference : {A : Type 0} → Reference → A → (ℕ → A) → A
+withReference (To t) x k = k t
+withReference Nothing x k = x
 
 module _ (𝒯 : Tables) where
   -- the record type that the value in a register is a reference to
@@ -39,13 +40,13 @@ module _ (𝒯 : Tables) where
   permits toLoad t c = true
   permits toStore t c = not (locked 𝒯 t c)
 
-  -- Q10, Q11, Q23, Q12 of an access through register b at offset c
-  unfoldable pub onRecord : {A : Type 0} → (Question → Refusal) → Access → Reading → ℕ → ℕ → (ℕ → Outcome A) → Outcome A
-  onRecord place x st b c k =
-      withReference (referenceIn st b) (place q10) λ t.
-      ask (ltb c (𝒯 .size t)) (place q11) λ _.
-      ask (permits x t c) (place q23) λ _.
-      ask (mayTouch st (valueIn st b)) (place q12) λ _.
+  -- Q10, Q11, Q23, Q12 of an access through register b at offset c: what follows for the record's type, or else what a no comes to
+  unfoldable pub onRecord : {A : Type 0} → (Question → A) → Access → Reading → ℕ → ℕ → (ℕ → A) → A
+  onRecord refuse x st b c k =
+      withReference (referenceIn st b) (refuse q10) λ t.
+      provided (ltb c (𝒯 .size t)) (refuse q11) λ _.
+      provided (permits x t c) (refuse q23) λ _.
+      provided (mayTouch st (valueIn st b)) (refuse q12) λ _.
       k t
 
   -- an instruction that does not end a block, whose values are born at g
@@ -59,9 +60,10 @@ module _ (𝒯 : Tables) where
   readPlain place g (move a b c) st =
       let v = valueIn st b in
       ok (fresh st g a (movedWord 𝒯 (getD (st .values .words) v 0) c) (getD (st .values .frames) (birthplace v) 0) 0)
-  readPlain place g (load a b c) st = onRecord place toLoad st b c λ t. ok (loaded (look 𝒯 st g (valueIn st b) t) a c)
+  readPlain place g (load a b c) st = onRecord (λ q. refused (place q)) toLoad st b c λ t. ok (loaded (look 𝒯 st g (valueIn st b) t) a c)
   readPlain place g (store a b c) st =
-      onRecord place toStore st b c λ t. ok (stored 𝒯 (look 𝒯 st g (valueIn st b) t) g (valueIn st b) t c (valueIn st a))
+      onRecord (λ q. refused (place q)) toStore st b c λ t.
+      ok (stored 𝒯 (look 𝒯 st g (valueIn st b) t) g (valueIn st b) t c (valueIn st a))
 
 module _ (𝒯 : Tables) (P : Routine) where
   -- the edge to block b meets its annotation

@@ -22,3 +22,4 @@ pub mod Cases
 pub mod Misreadings
 pub mod Chains
 pub mod Locks
+pub mod Cost

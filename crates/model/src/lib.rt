@@ -12,6 +12,14 @@ pub struct Verdict {
     pub second: u32,
 }
 
+// What a check of a routine returns: its verdict, and how many fit questions were put.
+pub struct CheckAnswer {
+    pub number: u32,
+    pub first: u32,
+    pub second: u32,
+    pub asked: u32,
+}
+
 // What a run returns beside the memory that it leaves.
 pub struct RunAnswer {
     pub number: u32,

@@ -3,10 +3,11 @@ ghost use mathlib.Core.Path.{_≡_};
 ghost use mathlib.Core.List.{[], _∷_};
 ghost use Prim.Native.Nat.{_+_, _*_, _≤_};
 ghost use lib.ListN.{length};
-ghost use Rattle.protocol.specs.Text.{decimal, fields, verdictText, runText, malformedText};
+ghost use Rattle.protocol.specs.Text.{decimal, fields, verdictText, checkText, runText, malformedText};
 ghost use Rattle.protocol.specs.Text.{field as fieldText};
 ghost use Rattle.output.specs.Appended.{buffer, Appended};
 ghost use Rattle.output.specs.Digits.{lastDigits};
+use model::CheckAnswer;
 use model::RunAnswer;
 use model::Verdict;
 
@@ -152,6 +153,18 @@ pub fn verdict(out: &mut [u8; BUFFER], n: usize, v: Verdict) -> usize
     let a = number(out, n, v.number as u64);
     let b = word(out, a, v.first);
     word(out, b, v.second)
+}
+
+// NUMBER A B ASKED
+pub fn check_answer(out: &mut [u8; BUFFER], n: usize, a: CheckAnswer) -> usize
+    requires { ⌜ n + 53 ≤ buffer ⌝ }
+    ensures { λ r. ⌜ Appended (now (out .entry)) n (checkText a) r (now (out .exit)) ⌝ }
+    ensures { λ r. ⌜ r ≤ n + 53 ⌝ }
+{
+    let b = number(out, n, a.number as u64);
+    let c = word(out, b, a.first);
+    let d = word(out, c, a.second);
+    word(out, d, a.asked)
 }
 
 // NUMBER BLOCK INDEX FINISHED R0 .. R7 COUNT WORDS..

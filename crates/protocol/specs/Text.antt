@@ -5,6 +5,7 @@ use lib.Dec.{ltb}
 use lib.ListN.{length}
 use Rattle.model.specs.Question.{pick}
 use Rattle.model.specs.declared.Verdict.{Verdict}
+use Rattle.model.specs.declared.CheckAnswer.{CheckAnswer}
 use Rattle.model.specs.declared.RunAnswer.{RunAnswer}
 use Rattle.grammar.specs.Codes.{codes}
 
@@ -37,6 +38,10 @@ fields (n ∷ ns) = field n ++ fields ns
 -- NUMBER A B
 abbrev pub verdictText : Verdict → List ℕ
 verdictText v = decimal (v .number) ++ (field (v .first) ++ field (v .second))
+
+-- NUMBER A B ASKED
+abbrev pub checkText : CheckAnswer → List ℕ
+checkText a = decimal (a .number) ++ (field (a .first) ++ (field (a .second) ++ field (a .asked)))
 
 -- NUMBER BLOCK INDEX FINISHED R0 .. R7 COUNT WORDS..
 abbrev pub runText : RunAnswer → List ℕ → List ℕ

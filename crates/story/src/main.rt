@@ -20,14 +20,18 @@ const TWO_AND_TWO: u32 = 51;
 
 const CORRECTION_FIRST: u32 = 15;
 
-fn say(out: &mut [u8; output::BUFFER], n: usize, words: &[u8], v: Verdict) -> usize {
+fn told(out: &mut [u8; output::BUFFER], n: usize, words: &[u8], v: Verdict) -> usize {
     let a = page::text(out, n, words);
     let b = page::put(out, a, b' ');
-    let c = page::verdict(out, b, v);
-    page::line_end(out, c)
+    page::verdict(out, b, v)
 }
 
-// The verdict on one routine.
+fn say(out: &mut [u8; output::BUFFER], n: usize, words: &[u8], v: Verdict) -> usize {
+    let at = told(out, n, words, v);
+    page::line_end(out, at)
+}
+
+// The verdict on one routine, and what it cost.
 fn judged(
     out: &mut [u8; output::BUFFER],
     n: usize,
@@ -37,8 +41,16 @@ fn judged(
 ) -> usize {
     let types = plots::types();
     let tags = plots::tags();
-    let v = loader::check(&types, &tags, blocks, code);
-    say(out, n, words, v)
+    let r = loader::check(&types, &tags, blocks, code);
+    let v = Verdict {
+        number: r.number,
+        first: r.first,
+        second: r.second,
+    };
+    let a = told(out, n, words, v);
+    let b = counted(out, a, b" after ", r.asked);
+    let c = page::text(out, b, b" fit questions");
+    page::line_end(out, c)
 }
 
 fn judged_hasty(out: &mut [u8; output::BUFFER], n: usize) -> usize {

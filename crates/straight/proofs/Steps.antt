@@ -2,7 +2,7 @@
 use mathlib.Core.Path.{_≡_, refl, _∙_}
 use mathlib.Core.Bool.{true, false}
 use mathlib.Core.List.{List}
-use Prim.Native.Nat.{ℕ, suc, _+_, _-_, _*_, _%_, _^_, _<_, _≤_}
+use Prim.Native.Nat.{ℕ, zero, suc, _+_, _-_, _*_, _%_, _^_, _<_, _≤_}
 use native.Mathlib.Numerals.{add-one}
 use native.Mathlib.Omega.{arith}
 use lib.Dec.{eqb}
@@ -16,6 +16,7 @@ use Rattle.model.specs.Machine.{constant, copy, move}
 use Rattle.model.specs.Values.{birthplace}
 use Rattle.model.specs.Reading.{Reading, laidAt, born, putRegister, fresh, onSpan, moves, isSize, walks, movedWord, powerOfTwo}
 use Rattle.model.specs.Check.{valueIn, readPlain}
+use Rattle.model.specs.Cost.{plainAsked}
 use Rattle.model.proofs.Logic.{byEqual, byLess}
 use Rattle.instruction.specs.Form.{plainOf}
 use Rattle.known.specs.Numbers.{frameOf}
@@ -142,3 +143,20 @@ module _ {w a b c : ℕ} (p : Parts w a b c) (𝒯 : Tables) (place : Question �
         (λ g4. byLess (opcodeOf w) 5 (λ k. let o : opcodeOf w ≡ 4 = omega arith in rw (ez, es, o, p .a-is))
         (λ g5. byLess (opcodeOf w) 6 (λ k. let o : opcodeOf w ≡ 5 = omega arith in rw (ez, es, o, p .a-is))
         (λ g6. let o : opcodeOf w ≡ 6 = omega arith in rw (ez, es, o, p .a-is))))
+
+-- ---- of instructions inside a block, only a store puts fit questions
+
+pub plain-unasked : (𝒯 : Tables) (w : ℕ) (st : Reading) → opcodeOf w < 8 → 0 ≡ plainAsked 𝒯 (plainOf w) st
+unfolding plainAsked plainOf
+plain-unasked 𝒯 w st h = go (opcodeOf w) refl
+  where
+    go : (o : ℕ) → opcodeOf w ≡ o → 0 ≡ plainAsked 𝒯 (plainOf w) st
+    go zero e = rw e
+    go (suc zero) e = rw e
+    go (suc (suc zero)) e = rw e
+    go (suc (suc (suc zero))) e = rw e
+    go (suc (suc (suc (suc zero)))) e = rw e
+    go (suc (suc (suc (suc (suc zero))))) e = rw e
+    go (suc (suc (suc (suc (suc (suc zero)))))) e = rw e
+    go (suc (suc (suc (suc (suc (suc (suc zero))))))) e = rw e
+    go (suc (suc (suc (suc (suc (suc (suc (suc k)))))))) e = absurd (omega arith)

@@ -11,6 +11,7 @@ ghost use Rattle.model.specs.Table.{tablesOf, Routine};
 ghost use Rattle.model.specs.Machine.{decode};
 ghost use Rattle.model.specs.Reading.{powerOfTwo, isSize, movedWord};
 ghost use Rattle.model.specs.Check.{readPlain, readInstruction};
+ghost use Rattle.model.specs.Cost.{plainAsked, instructionAsked};
 ghost use Rattle.instruction.specs.Rows.{opcodeRows};
 ghost use Rattle.instruction.specs.Form.{plainOf, Inside};
 ghost use Rattle.known.specs.Numbers.{tablesIn};
@@ -110,9 +111,10 @@ fn step(
     fields: &mut [u8; 8],
     i: Fetched,
 ) -> Progress
-    requires { ⌜ Inside 1 (i .word) × (i .g < 32) × (i .s .number ≡ 0) × Sizes (now types) ⌝ }
+    requires { ⌜ Inside 1 (i .word) × (i .g < 32) × (i .s .number ≡ 0) × Sizes (now types) × (i .s .asked ≤ 256) ⌝ }
     ensures { λ r. ⌜ Reads registers words frames constants views fields (i .s) r
-        (λ place. readPlain (tablesIn (now (types .entry)) tags) place (i .g) (plainOf (i .word))) ⌝ }
+        (λ place. readPlain (tablesIn (now (types .entry)) tags) place (i .g) (plainOf (i .word)))
+        (plainAsked (tablesIn (now (types .entry)) tags) (plainOf (i .word))) ⌝ }
 {
     let word = i.word;
     let op = word::opcode(word);
@@ -166,9 +168,10 @@ pub fn read_inside(
     fields: &mut [u8; 8],
     i: Fetched,
 ) -> Progress
-    requires { ⌜ (now rows ≡ opcodeRows) × (i .g < 32) × (i .s .number ≡ 0) × Sizes (now types) ⌝ }
+    requires { ⌜ (now rows ≡ opcodeRows) × (i .g < 32) × (i .s .number ≡ 0) × Sizes (now types) × (i .s .asked ≤ 256) ⌝ }
     ensures { λ r. ⌜ ((P : Routine) (b : ℕ) → Reads registers words frames constants views fields (i .s) r
-        (λ place. readInstruction (tablesIn (now (types .entry)) tags) P place b (i .g) false (decode (i .word)))) ⌝ }
+        (λ place. readInstruction (tablesIn (now (types .entry)) tags) P place b (i .g) false (decode (i .word)))
+        (instructionAsked (tablesIn (now (types .entry)) tags) P b false (decode (i .word)))) ⌝ }
 {
     let word = i.word;
     let no = instruction::form(rows, word, false, 0, 0);

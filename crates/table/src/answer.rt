@@ -1,7 +1,9 @@
-// The two kinds of verdict.
+// The two kinds of verdict, and a verdict with its count.
 ghost use mathlib.Core.Path.{_≡_};
 ghost use Prim.Native.Nat.{_<_};
 ghost use Rattle.model.specs.Question.{passed};
+ghost use Rattle.model.specs.Cost.{counting};
+use model::CheckAnswer;
 use model::Verdict;
 use model::number;
 
@@ -33,4 +35,16 @@ pub fn refused(number: u32, first: usize) -> Verdict
     ensures { λ r. ⌜ r ≡ record { number = number; first = first; second = 0 } ⌝ }
 {
     refused_at(number, first, 0)
+}
+
+// A verdict, and how many fit questions were put up to it.
+pub fn counting(v: Verdict, asked: u32) -> CheckAnswer
+    ensures { λ r. ⌜ r ≡ counting v asked ⌝ }
+{
+    CheckAnswer {
+        number: v.number,
+        first: v.first,
+        second: v.second,
+        asked: asked,
+    }
 }

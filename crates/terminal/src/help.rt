@@ -21,7 +21,7 @@ fn written(bytes: &[u8]) -> bool {
 }
 
 pub fn version() -> bool {
-    written(b"ramdulsi 0.5.0\n")
+    written(b"ramdulsi 0.6.0\n")
 }
 
 pub fn help() -> bool {
@@ -33,7 +33,7 @@ pub fn help() -> bool {
           answered it writes before it waits for more.\n\
           \n\
           Requests and answers:\n\
-          \x20 check  TYPES TAGS BLOCKS CODE                                    NUMBER A B\n\
+          \x20 check  TYPES TAGS BLOCKS CODE                                    NUMBER A B ASKED\n\
           \x20 memory TYPES TAGS ALLOCATIONS MEMORY                             NUMBER A B\n\
           \x20 entry  TYPES TAGS ALLOCATIONS MEMORY BLOCKS CODE BLOCK R0 .. R7  NUMBER A B\n\
           \x20 run    BLOCKS CODE MEMORY BLOCK R0 .. R7 BUDGET                  NUMBER A B FINISHED R0 .. R7 COUNT WORDS..\n\
@@ -43,11 +43,12 @@ pub fn help() -> bool {
           Spaces, tabs and carriage returns separate; empty lines and lines that begin with # are passed over.\n\
           \n\
           NUMBER is 0 for passed or halted, 40 for paused, else that of the first question with a no, and A B is\n\
-          its place. After a run: the blocks finished, the registers, the memory. A line of another form is\n\
-          answered by malformed and the byte, counted from 0, at which reading stopped.\n\
+          its place. ASKED is what the check of a routine cost: the fit questions put, refused or not. After a\n\
+          run: the blocks finished, the registers, the memory. A line of another form is answered by malformed\n\
+          and the byte, counted from 0, at which reading stopped.\n\
           \n\
           Options:\n\
-          \x20 --words      after each answer two blanks, # and the answer's name, meaning and place in words\n\
+          \x20 --words      after each answer two blanks, # and the answer's name, meaning, place and cost in words\n\
           \x20 --lines      before each answer the number of its line, counted from 1 anew in each file\n\
           \x20 -h, --help   this text\n\
           \x20 --version    the version\n\
@@ -56,7 +57,7 @@ pub fn help() -> bool {
           Exit status: 0 every answer was 0 or 40; 1 some request was refused or some line malformed; 2 an unknown\n\
           option; 3 input or output failed, and standard error says what, where and why.\n\
           \n\
-          An example, a block that halts at once, is accepted with 0 0 0:\n\
+          An example, a block that halts at once, is accepted with 0 0 0 0:\n\
           \x20 echo 'check 9 1 0 0 0 0 0 0 0 0 0 9 1 0 0 0 0 0 0 0 0 1 0' | ramdulsi --words\n",
     )
 }

@@ -4,19 +4,22 @@ use mathlib.Core.Bool.{Bool, true, false}
 use mathlib.Core.List.{List, [], _∷_}
 use Prim.Native.Nat.{ℕ, zero, suc, _+_, _-_, _*_, _%_, _<_, _≤_}
 use native.Mathlib.Numerals.{add-one}
-use native.Mathlib.Nat.{sub-zero}
+use native.Mathlib.Nat.{sub-zero, zero-add, add-zero}
 use native.Mathlib.Omega.{arith}
 use lib.ListN.{length, getD, take, drop, replicate, length-take, length-drop}
 use borrow.Author.Tests.{eq-eqb, ne-eqb}
 use Rattle.model.specs.declared.Verdict.{Verdict}
-use Rattle.model.specs.Question.{Question, isAnswer, Refusal, Outcome, ok, then, firstNo, verdictOf}
+use Rattle.model.specs.declared.CheckAnswer.{CheckAnswer}
+use Rattle.model.specs.Question.{Question, isAnswer, Refusal, Outcome, ok, refused, then, firstNo, passed, verdictOf}
 use Rattle.model.specs.Table.{Tables, tablesOf, Code, codeOf, Routine, routineOf, rows, headOf, wordsOf, startOf, lastAt}
 use Rattle.model.specs.Machine.{decode, targetsExist}
 use Rattle.model.specs.Reading.{Reading, laidAt, zeros, upFrom, entry}
 use Rattle.model.specs.Check.{noAt, readInstruction, readAt, readOn, blockAsk, judge, tableQuestions, tablesAsk, checkAsk, check}
-use Rattle.model.proofs.Logic.{byLess, number-of, answer-number, all-passed, ok-verdict}
+use Rattle.model.specs.Cost.{past, instructionAsked, askedOn, blockAsked, askedFrom, askedOf, counting, checkAnswer}
+use Rattle.model.proofs.Logic.{byLess, byEqual, number-of, answer-number, all-passed, ok-verdict}
+use Rattle.model.proofs.Cost.{inside-bound, past-ok, past-no}
 use Rattle.table.proofs.Laws.{row-inside, start-more, routine-annotation, type-lengths-passed, code-lengths-passed, size-bounds, block-bounds}
-use Rattle.table.proofs.Questions.{left, ComesTo, then-on, then-stops, no-refusal}
+use Rattle.table.proofs.Questions.{left, ComesTo, then-on, then-stops, no-refusal, first-on, first-no, first-end}
 use Rattle.instruction.specs.Form.{endOf, targetOf}
 use Rattle.instruction.proofs.Laws.{target-exists, next-exists}
 use Rattle.known.specs.Numbers.{framesOf}
@@ -25,20 +28,36 @@ use Rattle.access.proofs.Outcomes.{numbered-ok, numbered-no}
 use Rattle.access.proofs.Fields.{size-past}
 use Rattle.branch.specs.End.{EdgeRows}
 use Rattle.verify.specs.declared.Stopped.{Stopped}
-use Rattle.verify.specs.Blocks.{BlockAt, begun, ReadSoFar}
+use Rattle.verify.specs.Blocks.{BlockAt, begun, LeftAt, ReadSoFar, verdictAt, judged}
+
+-- ---- counts past questions
+
+past-none : {A : Type 0} (o : Outcome A) → past o (λ _. 0) ≡ 0
+unfolding past
+past-none (ok a) = refl
+past-none (refused r) = refl
+
+past-refused : (o : Outcome (Unit {0})) (k : Unit {0} → ℕ) → (verdictOf o .number ≡ 0 → ⊥) → past o k ≡ 0
+unfolding past verdictOf
+past-refused (ok u) k n = absurd (n refl)
+past-refused (refused r) k n = refl
 
 -- ---- numbers
 
-abbrev pub verdict : ℕ → ℕ → ℕ → Verdict
-verdict n b i = record { number = n; first = b; second = i }
+module _ (z b i : ℕ) where
+  pub verdict-none : z ≡ 0 → passed ≡ verdictAt z b i
+  verdict-none e = rw (eq-eqb z 0 e)
+
+  pub verdict-no : (z ≡ 0 → ⊥) → record { number = z; first = b; second = i } ≡ verdictAt z b i
+  verdict-no n = rw (ne-eqb z 0 n)
 
 -- what follows a numbered outcome at the instruction at offset j of block b
 module _ {A B : Type 0} (𝒯 : Tables) (P : Routine) (b j z : ℕ) (a : A) (k : A → Outcome B) where
-  pub no-verdict : (z ≡ 0 → ⊥) → isAnswer z ≡ true → verdict z b (P .start b + j) ≡ verdictOf (then (numbered (noAt 𝒯 P b j) z a) k)
+  no-verdict : (z ≡ 0 → ⊥) → isAnswer z ≡ true → verdictAt z b (P .start b + j) ≡ verdictOf (then (numbered (noAt 𝒯 P b j) z a) k)
   unfolding then verdictOf
-  no-verdict n l = rw (numbered-no (noAt 𝒯 P b j) z a n, number-of z (answer-number z l n))
+  no-verdict n l = rw (ne-eqb z 0 n, numbered-no (noAt 𝒯 P b j) z a n, number-of z (answer-number z l n))
 
-  pub goes-on : z ≡ 0 → then (numbered (noAt 𝒯 P b j) z a) k ≡ k a
+  goes-on : z ≡ 0 → then (numbered (noAt 𝒯 P b j) z a) k ≡ k a
   unfolding then
   goes-on e = rw (numbered-ok (noAt 𝒯 P b j) z a e)
 
@@ -46,6 +65,14 @@ module _ {A B : Type 0} (𝒯 : Tables) (P : Routine) (b j z : ℕ) (a : A) (k :
   stays : (k′ : A → Outcome B) → (z ≡ 0 → ⊥) → then (numbered (noAt 𝒯 P b j) z a) k ≡ then (numbered (noAt 𝒯 P b j) z a) k′
   unfolding then
   stays k′ n = rw (numbered-no (noAt 𝒯 P b j) z a n)
+
+-- and the fit questions that are put after it
+module _ {A : Type 0} (𝒯 : Tables) (P : Routine) (b j z : ℕ) (a : A) (k : A → ℕ) where
+  counts-on : z ≡ 0 → past (numbered (noAt 𝒯 P b j) z a) k ≡ k a
+  counts-on e = past-ok _ k a (numbered-ok (noAt 𝒯 P b j) z a e)
+
+  counts-none : (z ≡ 0 → ⊥) → past (numbered (noAt 𝒯 P b j) z a) k ≡ 0
+  counts-none n = past-no _ k _ (numbered-no (noAt 𝒯 P b j) z a n)
 
 -- ---- one instruction of a block
 
@@ -65,41 +92,92 @@ module _ (𝒯 : Tables) {P : Routine} {b first : ℕ} {part : List ℕ} (B : Bl
     one-more =
         rw (left n j (omega arith), read-at false (ne-eqb _ (P .long b) (λ e. omega (arith, B .long))) r, add-one j)
 
-    pub read-on : z ≡ 0 → readOn 𝒯 P b (n - j) j st ≡ readOn 𝒯 P b (n - (j + 1)) (j + 1) st′
+    read-on : z ≡ 0 → readOn 𝒯 P b (n - j) j st ≡ readOn 𝒯 P b (n - (j + 1)) (j + 1) st′
     read-on e = one-more ∙ goes-on 𝒯 P b j z st′ _ e
 
-    pub read-stops : (z ≡ 0 → ⊥) → readOn 𝒯 P b (n - j) j st ≡ then (numbered (noAt 𝒯 P b j) z st′) (λ x. readOn 𝒯 P b 1 j x)
+    read-stops : (z ≡ 0 → ⊥) → readOn 𝒯 P b (n - j) j st ≡ then (numbered (noAt 𝒯 P b j) z st′) (λ x. readOn 𝒯 P b 1 j x)
     read-stops e = one-more ∙ stays 𝒯 P b j z st′ _ _ e
 
-  pub read-last : j + 1 ≡ n → Reads true → readOn 𝒯 P b 1 j st ≡ then (numbered (noAt 𝒯 P b j) z st′) (λ _. ok tt)
+    -- the fit questions that it puts are k
+    module _ (k : ℕ) (ek : k ≡ instructionAsked 𝒯 P b false (decode (getD part j 0)) st) where
+      one-counted : askedOn 𝒯 P b (n - j) j st ≡ k + past (numbered (noAt 𝒯 P b j) z st′) (λ x. askedOn 𝒯 P b (n - (j + 1)) (j + 1) x)
+      unfolding askedOn
+      one-counted =
+          let inner : lastAt P b j ≡ false = ne-eqb _ (P .long b) (λ e. omega (arith, B .long)) in
+          rw (left n j (omega arith), read-at false inner r, inner, B .code, ← ek, add-one j)
+
+      counted-on : z ≡ 0 → askedOn 𝒯 P b (n - j) j st ≡ k + askedOn 𝒯 P b (n - (j + 1)) (j + 1) st′
+      counted-on e = one-counted ∙ ap (λ (m : ℕ). k + m) (counts-on 𝒯 P b j z st′ _ e)
+
+      counted-stops : (z ≡ 0 → ⊥) → askedOn 𝒯 P b (n - j) j st ≡ k + past (numbered (noAt 𝒯 P b j) z st′) (λ x. askedOn 𝒯 P b 1 j x)
+      counted-stops e = one-counted ∙ ap (λ (m : ℕ). k + m) (counts-none 𝒯 P b j z st′ _ e ∙ sym (counts-none 𝒯 P b j z st′ _ e))
+
+  read-last : j + 1 ≡ n → Reads true → readOn 𝒯 P b 1 j st ≡ then (numbered (noAt 𝒯 P b j) z st′) (λ _. ok tt)
   unfolding readOn
   read-last h r = rw (read-at true (eq-eqb _ (P .long b) (omega (arith, B .long))) r)
 
+  counted-last : j + 1 ≡ n → (k : ℕ) → k ≡ instructionAsked 𝒯 P b true (decode (getD part j 0)) st → askedOn 𝒯 P b 1 j st ≡ k
+  unfolding askedOn
+  counted-last h k ek =
+      let last : lastAt P b j ≡ true = eq-eqb _ (P .long b) (omega (arith, B .long)) in
+      let here : instructionAsked 𝒯 P b (lastAt P b j) (decode (getD (P .part b) j 0)) st ≡ k = rw (last, B .code) (sym ek) in
+      ap (λ (m : ℕ). m + past (readAt 𝒯 P b j st) (λ _. 0)) here ∙ ap (λ (m : ℕ). k + m) (past-none (readAt 𝒯 P b j st)) ∙ add-zero k
+
+-- some routine: before a block's end it is of no account which
+abbrev nowhere : Routine
+nowhere = routineOf (codeOf [] [])
+
 -- As a loop reads the instructions before the last: from offset j on they come to what all come to.
-pub record InsideLeft (𝒯 : Tables) (part : List ℕ) (st₀ st : Reading) (number j : ℕ) : Type 0 where
+pub record InsideLeft (𝒯 : Tables) (part : List ℕ) (st₀ st : Reading) (number asked j : ℕ) : Type 0 where
   pub rest : (P : Routine) (b first : ℕ) → BlockAt P b first part → readOn 𝒯 P b (P .long b) 0 st₀ ≡ readOn 𝒯 P b (length part - j) j st
+  pub count : (P : Routine) (b first : ℕ) → BlockAt P b first part
+      → askedOn 𝒯 P b (P .long b) 0 st₀ ≡ asked + askedOn 𝒯 P b (length part - j) j st
   pub none : number ≡ 0
+  pub few : asked ≤ 8 * j
   pub within : j + 1 ≤ length part
 
-pub inside-begins : (𝒯 : Tables) (part : List ℕ) (st : Reading) → 1 ≤ length part → InsideLeft 𝒯 part st st 0 0
-inside-begins 𝒯 part st h = record { rest = λ P b first B. rw (B .long, sub-zero); none = refl; within = omega arith }
+pub inside-begins : (𝒯 : Tables) (part : List ℕ) (st : Reading) → 1 ≤ length part → InsideLeft 𝒯 part st st 0 0 0
+inside-begins 𝒯 part st h =
+    record {
+      rest = λ P b first B. rw (B .long, sub-zero);
+      count = λ P b first B. rw (B .long, sub-zero) (sym (zero-add _));
+      none = refl;
+      few = omega arith;
+      within = omega arith;
+    }
 
-module _ {𝒯 : Tables} {part : List ℕ} {st₀ st : Reading} {number j : ℕ} (l : InsideLeft 𝒯 part st₀ st number j) where
-  module _ (st′ : Reading) (z : ℕ) (h : j + 1 < length part)
+module _ {𝒯 : Tables} {part : List ℕ} {st₀ st : Reading} {number asked j : ℕ} (l : InsideLeft 𝒯 part st₀ st number asked j) where
+  module _ (st′ : Reading) (z asked′ : ℕ) (h : j + 1 < length part)
       (r : (P : Routine) (b : ℕ) (place : Question → Refusal)
-      → numbered place z st′ ≡ readInstruction 𝒯 P place b (j + 1) false (decode (getD part j 0)) st) where
-    pub inside-on : z ≡ 0 → InsideLeft 𝒯 part st₀ st′ z (j + 1)
-    inside-on e = record { rest = λ P b first B. l .rest P b first B ∙ read-on 𝒯 B j st st′ z h (r P b) e; none = e; within = omega arith }
+      → numbered place z st′ ≡ readInstruction 𝒯 P place b (j + 1) false (decode (getD part j 0)) st)
+      (c : (P : Routine) (b : ℕ) → asked′ ≡ asked + instructionAsked 𝒯 P b false (decode (getD part j 0)) st) where
+    pub few-more : ((t : ℕ) → 𝒯 .size t ≤ 8) → asked′ ≤ 8 * (j + 1)
+    few-more small = omega (arith, c nowhere 0, inside-bound 𝒯 nowhere small 0 (decode (getD part j 0)) st, l .few)
 
-    pub inside-stops : (z ≡ 0 → ⊥) → (P : Routine) (b first : ℕ) → BlockAt P b first part
-        → readOn 𝒯 P b (P .long b) 0 st₀ ≡ then (numbered (noAt 𝒯 P b j) z st′) (λ x. readOn 𝒯 P b 1 j x)
-    inside-stops n P b first B = l .rest P b first B ∙ read-stops 𝒯 B j st st′ z h (r P b) n
+    pub inside-on : ((t : ℕ) → 𝒯 .size t ≤ 8) → z ≡ 0 → InsideLeft 𝒯 part st₀ st′ z asked′ (j + 1)
+    inside-on small e =
+        record {
+          rest = λ P b first B. l .rest P b first B ∙ read-on 𝒯 B j st st′ z h (r P b) e;
+          count = λ P b first B. omega (arith, l .count P b first B, c P b, counted-on 𝒯 B j st st′ z h (r P b) _ refl e);
+          none = e;
+          few = few-more small;
+          within = omega arith;
+        }
 
-  pub inside-ends : j + 1 ≡ length part → (P : Routine) (b first : ℕ) → BlockAt P b first part
-      → readOn 𝒯 P b (P .long b) 0 st₀ ≡ then (numbered (noAt 𝒯 P b j) 0 st) (λ x. readOn 𝒯 P b 1 j x)
+    pub inside-stops : (z ≡ 0 → ⊥) → (P : Routine) (b first : ℕ) → BlockAt P b first part → LeftAt 𝒯 P b st₀ z j asked′ st′
+    inside-stops n P b first B =
+        record {
+          rest = l .rest P b first B ∙ read-stops 𝒯 B j st st′ z h (r P b) n;
+          count = omega (arith, l .count P b first B, c P b, counted-stops 𝒯 B j st st′ z h (r P b) _ refl n);
+        }
+
+  pub inside-ends : j + 1 ≡ length part → (P : Routine) (b first : ℕ) → BlockAt P b first part → LeftAt 𝒯 P b st₀ number j asked st
   inside-ends h P b first B =
       let one : length part - j ≡ 1 = omega arith in
-      l .rest P b first B ∙ rw one (sym (goes-on 𝒯 P b j 0 st _ refl))
+      record {
+        rest = l .rest P b first B ∙ rw one (sym (goes-on 𝒯 P b j number st _ (l .none)));
+        count = l .count P b first B ∙ rw one (ap (λ (m : ℕ). asked + m) (sym (counts-on 𝒯 P b j number st _ (l .none))));
+      }
 
 -- ---- the last instruction of a block
 
@@ -132,39 +210,107 @@ no-views zero = refl
 no-views (suc n) = ap {B = List ℕ} (λ (r : List ℕ). 0 ∷ r) (no-views n)
 
 -- the reading that the locals of the block's function make at its beginning
-pub block-begins : (𝒯 : Tables) (C : Code) (b : ℕ) (words : List ℕ) → words ≡ laidAt (replicate 256 0) 0 (wordsOf (C .blocks) b)
-    → blockAsk 𝒯 (routineOf C) b
-    ≡ readOn 𝒯 (routineOf C) b (routineOf C .long b) 0 (begun (0 ∷ 1 ∷ 2 ∷ 3 ∷ 4 ∷ 5 ∷ 6 ∷ 7 ∷ []) words (replicate 32 0) (replicate 32 0))
-unfolding blockAsk entry routineOf zeros upFrom
-block-begins 𝒯 C b words ew = rw (ew, no-frames 32, no-views 256)
+pub block-begins : (C : Code) (b : ℕ) (words : List ℕ) → words ≡ laidAt (replicate 256 0) 0 (wordsOf (C .blocks) b)
+    → begun (0 ∷ 1 ∷ 2 ∷ 3 ∷ 4 ∷ 5 ∷ 6 ∷ 7 ∷ []) words (replicate 32 0) (replicate 32 0) ≡ entry (routineOf C .annotation b)
+unfolding entry routineOf zeros upFrom
+block-begins C b words ew = rw (ew, no-frames 32, no-views 256)
 
 module _ {𝒯 : Tables} {P : Routine} {b first : ℕ} {part : List ℕ} (B : BlockAt P b first part) {st : Reading} {r : Stopped}
     {registers words frames constants : List ℕ} (S : ReadSoFar 𝒯 P b st r registers words frames constants) where
   abbrev st′ : Reading
   st′ = reading registers words frames constants (S .views) (S .fields) (S .since) (r .base)
 
-  at-first : (z : ℕ) {v : Verdict} → verdict z b (P .start b + r .at) ≡ v → verdict z b (first + r .at) ≡ v
-  at-first z e = rw (← B .start) e
+  -- what the block's function hands back for a number and a count
+  abbrev handed : ℕ → ℕ → CheckAnswer
+  handed z k = counting (verdictAt z b (first + r .at)) k
 
-  pub block-stops : (r .number ≡ 0 → ⊥) → verdict (r .number) b (first + r .at) ≡ verdictOf (readOn 𝒯 P b (P .long b) 0 st)
-  block-stops n = at-first (r .number) (no-verdict 𝒯 P b (r .at) (r .number) st′ _ n (S .answers) ∙ ap verdictOf (sym (S .rest)))
+  -- the block, where the blocks before it have put so many fit questions
+  abbrev whole : ℕ → CheckAnswer
+  whole asked = counting (verdictOf (blockAsk 𝒯 P b)) (asked + blockAsked 𝒯 P b)
 
-  module _ (e : r .number ≡ 0) (h : r .at + 1 ≡ length part) (z : ℕ) (reads : Reads 𝒯 B (r .at) st′ st′ z true) where
-    last-left : readOn 𝒯 P b (P .long b) 0 st ≡ then (numbered (noAt 𝒯 P b (r .at)) z st′) (λ _. ok tt)
-    last-left = S .rest ∙ goes-on 𝒯 P b (r .at) (r .number) st′ _ e ∙ read-last 𝒯 B (r .at) st′ st′ z h reads
+  handed-is : (z k asked : ℕ) → verdictAt z b (P .start b + r .at) ≡ verdictOf (readOn 𝒯 P b (P .long b) 0 st)
+      → k ≡ asked + askedOn 𝒯 P b (P .long b) 0 st → st ≡ entry (P .annotation b) → handed z k ≡ whole asked
+  unfolding blockAsk blockAsked
+  handed-is z k asked ev ek es = rw (← es, ← B .start, ev, ek)
 
-    pub block-refuses : (z ≡ 0 → ⊥) → isAnswer z ≡ true → verdict z b (first + r .at) ≡ verdictOf (readOn 𝒯 P b (P .long b) 0 st)
-    block-refuses n l = at-first z (no-verdict 𝒯 P b (r .at) z st′ _ n l ∙ ap verdictOf (sym last-left))
+  module _ (es : st ≡ entry (P .annotation b)) (asked : ℕ) where
+    pub block-stops : (r .number ≡ 0 → ⊥) → handed (r .number) (asked + r .asked) ≡ whole asked
+    block-stops n =
+        let L = S .left in
+        handed-is (r .number) (asked + r .asked) asked (no-verdict 𝒯 P b (r .at) (r .number) st′ _ n (S .answers) ∙ ap verdictOf (sym (L .rest)))
+        (omega (arith, L .count, counts-none 𝒯 P b (r .at) (r .number) st′ (λ x. askedOn 𝒯 P b 1 (r .at) x) n)) es
 
-    pub block-passes : z ≡ 0 → verdict 0 0 0 ≡ verdictOf (readOn 𝒯 P b (P .long b) 0 st)
-    unfolding verdictOf
-    block-passes n = sym (ap verdictOf (last-left ∙ goes-on 𝒯 P b (r .at) z st′ _ n))
+    module _ (e : r .number ≡ 0) (h : r .at + 1 ≡ length part) (z k : ℕ) (reads : Reads 𝒯 B (r .at) st′ st′ z true)
+        (ek : k ≡ instructionAsked 𝒯 P b true (decode (getD part (r .at) 0)) st′) (l : isAnswer z ≡ true) where
+      last-left : readOn 𝒯 P b (P .long b) 0 st ≡ then (numbered (noAt 𝒯 P b (r .at)) z st′) (λ _. ok tt)
+      last-left = S .left .rest ∙ goes-on 𝒯 P b (r .at) (r .number) st′ _ e ∙ read-last 𝒯 B (r .at) st′ st′ z h reads
+
+      last-verdict : verdictAt z b (P .start b + r .at) ≡ verdictOf (readOn 𝒯 P b (P .long b) 0 st)
+      unfolding verdictOf
+      last-verdict =
+          byEqual z 0 (λ q. rw (eq-eqb z 0 q) (sym (ap verdictOf (last-left ∙ goes-on 𝒯 P b (r .at) z st′ _ q))))
+          (λ n. no-verdict 𝒯 P b (r .at) z st′ _ n l ∙ ap verdictOf (sym last-left))
+
+      pub block-ends : handed z (asked + r .asked + k) ≡ whole asked
+      block-ends =
+          handed-is z (asked + r .asked + k) asked last-verdict
+          (omega (
+            arith,
+            S .left .count,
+            counts-on 𝒯 P b (r .at) (r .number) st′ (λ x. askedOn 𝒯 P b 1 (r .at) x) e,
+            counted-last 𝒯 B (r .at) st′ st′ z h k ek,
+          )) es
 
 -- ---- all blocks
 
-pub judge-begins : (𝒯 : Tables) (C : Code) → judge 𝒯 (routineOf C) ≡ firstNo (rows (C .blocks) - 0) 0 (blockAsk 𝒯 (routineOf C))
+-- As a loop judges them: from block b on they come to what all come to.
+pub record BlocksLeft (𝒯 : Tables) (P : Routine) (n asked b : ℕ) : Type 0 where
+  pub rest : judge 𝒯 P ≡ firstNo (n - b) b (blockAsk 𝒯 P)
+  pub count : askedFrom 𝒯 P (P .count) 0 ≡ asked + askedFrom 𝒯 P (n - b) b
+  pub within : b ≤ n
+  pub few : asked ≤ 512 * b
+
+pub judge-begins : (𝒯 : Tables) (C : Code) → BlocksLeft 𝒯 (routineOf C) (rows (C .blocks)) 0 0
 unfolding judge routineOf
-judge-begins 𝒯 C = rw sub-zero
+judge-begins 𝒯 C = record { rest = rw sub-zero; count = rw sub-zero (sym (zero-add _)); within = omega arith; few = omega arith }
+
+module _ {𝒯 : Tables} {P : Routine} {n asked b : ℕ} (l : BlocksLeft 𝒯 P n asked b) where
+  one-block : b < n → askedFrom 𝒯 P (n - b) b ≡ blockAsked 𝒯 P b + past (blockAsk 𝒯 P b) (λ _. askedFrom 𝒯 P (n - (b + 1)) (b + 1))
+  unfolding askedFrom
+  one-block h = rw (left n b h, add-one b)
+
+  pub judge-ends : n ≤ b → counting passed asked ≡ judged 𝒯 P
+  unfolding askedFrom
+  judge-ends h =
+      let z : n - b ≡ 0 = omega arith in
+      ap (λ (v : Verdict). counting v asked) (first-end _ n b _ (l .rest) h)
+      ∙ ap (counting (verdictOf (judge 𝒯 P))) (sym (l .count ∙ rw z (add-zero asked)))
+
+  -- the block at hand, and its answer
+  module _ (h : b < n) (v : CheckAnswer) (ev : v ≡ counting (verdictOf (blockAsk 𝒯 P b)) (asked + blockAsked 𝒯 P b)) where
+    number-is : v .number ≡ verdictOf (blockAsk 𝒯 P b) .number
+    number-is = ap (λ (u : CheckAnswer). u .number) ev
+
+    asked-is : v .asked ≡ asked + blockAsked 𝒯 P b
+    asked-is = ap (λ (u : CheckAnswer). u .asked) ev
+
+    pub judge-on : v .number ≡ 0 → blockAsked 𝒯 P b ≤ 512 → BlocksLeft 𝒯 P n (v .asked) (b + 1)
+    judge-on z few =
+        let yes = no-refusal (blockAsk 𝒯 P b) _ refl (sym number-is ∙ z) in
+        record {
+          rest = first-on _ n b _ (l .rest) h yes;
+          count = omega (arith, l .count, one-block h, asked-is, past-ok (blockAsk 𝒯 P b) (λ _. askedFrom 𝒯 P (n - (b + 1)) (b + 1)) tt yes);
+          within = omega arith;
+          few = omega (arith, l .few, asked-is);
+        }
+
+    pub judge-stops : (v .number ≡ 0 → ⊥) → v ≡ judged 𝒯 P
+    judge-stops d =
+        let no : verdictOf (blockAsk 𝒯 P b) .number ≡ 0 → ⊥ = λ z. d (number-is ∙ z) in
+        let none = past-refused (blockAsk 𝒯 P b) (λ _. askedFrom 𝒯 P (n - (b + 1)) (b + 1)) no in
+        ev
+        ∙ ap (λ (u : Verdict). counting u (asked + blockAsked 𝒯 P b)) (first-no _ n b _ (l .rest) h _ refl no)
+        ∙ ap (counting (verdictOf (judge 𝒯 P))) (omega (arith, l .count, one-block h, none))
 
 -- every size is at most 8: past the table it is 0
 sizes-small : (types : List ℕ) → length types % 9 ≡ 0 → ((t : ℕ) → t < rows types → (1 ≤ headOf types t) × (headOf types t ≤ 8))
@@ -218,13 +364,17 @@ module _ (types tags : List ℕ) (C : Code) where
   tables-begin = record { asked = refl }
 
   module _ (v : Verdict) (e : v ≡ verdictOf (tablesAsk types tags C)) where
-    pub check-stops : (v .number ≡ 0 → ⊥) → v ≡ check types tags C
-    unfolding check checkAsk
-    check-stops n = then-stops (tablesAsk types tags C) _ v e n
+    pub check-stops : (v .number ≡ 0 → ⊥) → counting v 0 ≡ checkAnswer types tags C
+    unfolding checkAnswer check checkAsk askedOf
+    check-stops n =
+        ap (λ (u : Verdict). counting u 0) (then-stops (tablesAsk types tags C) _ v e n)
+        ∙ ap (counting (check types tags C)) (sym (past-refused (tablesAsk types tags C) _ (λ z. n (ap (λ (u : Verdict). u .number) e ∙ z))))
 
     pub tables-passed : v .number ≡ 0 → tablesAsk types tags C ≡ ok tt
     tables-passed z = no-refusal (tablesAsk types tags C) v e z
 
-    pub check-judges : v .number ≡ 0 → verdictOf (judge (tablesOf types tags) (routineOf C)) ≡ check types tags C
-    unfolding check checkAsk
-    check-judges z = sym (then-on (tablesAsk types tags C) _ v e z)
+    pub check-judges : v .number ≡ 0 → judged (tablesOf types tags) (routineOf C) ≡ checkAnswer types tags C
+    unfolding checkAnswer check checkAsk askedOf
+    check-judges z =
+        ap (λ (u : Verdict). counting u (askedFrom (tablesOf types tags) (routineOf C) (routineOf C .count) 0)) (sym (then-on (tablesAsk types tags C) _ v e z))
+        ∙ ap (counting (check types tags C)) (sym (past-ok (tablesAsk types tags C) _ tt (tables-passed z)))

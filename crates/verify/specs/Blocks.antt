@@ -3,11 +3,15 @@ use mathlib.Core.Path.{_≡_}
 use mathlib.Core.Bool.{true}
 use mathlib.Core.List.{List}
 use Prim.Native.Nat.{ℕ, _+_, _≤_, _<_}
+use lib.Dec.{eqb}
 use lib.ListN.{length, getD, replicate}
-use Rattle.model.specs.Question.{isAnswer, then}
+use Rattle.model.specs.declared.Verdict.{Verdict}
+use Rattle.model.specs.declared.CheckAnswer.{CheckAnswer}
+use Rattle.model.specs.Question.{pick, isAnswer, then, passed, verdictOf}
 use Rattle.model.specs.Table.{Tables, Routine, rows, startOf}
 use Rattle.model.specs.Reading.{Reading}
-use Rattle.model.specs.Check.{noAt, readOn}
+use Rattle.model.specs.Check.{noAt, readOn, judge}
+use Rattle.model.specs.Cost.{past, askedOn, askedFrom, counting}
 use Rattle.access.specs.State.{reading, numbered}
 use Rattle.verify.specs.declared.Stopped.{Stopped}
 
@@ -29,13 +33,25 @@ begun registers words frames constants = reading registers words frames constant
 pub record Stops (n : ℕ) (r : Stopped) : Type 0 where
   pub inside : r .at < n
   pub end : r .number ≡ 0 → r .at + 1 ≡ n
+  pub few : r .asked ≤ 256
 
--- The block comes to what it comes to from there on, with the reading that the arrays make there.
+-- The block comes to what it comes to from offset i on, where the reading st′ has so far a number and has put k fit questions.
+pub record LeftAt (𝒯 : Tables) (P : Routine) (b : ℕ) (st : Reading) (number i k : ℕ) (st′ : Reading) : Type 0 where
+  pub rest : readOn 𝒯 P b (P .long b) 0 st ≡ then (numbered (noAt 𝒯 P b i) number st′) λ x. readOn 𝒯 P b 1 i x
+  pub count : askedOn 𝒯 P b (P .long b) 0 st ≡ k + past (numbered (noAt 𝒯 P b i) number st′) λ x. askedOn 𝒯 P b 1 i x
+
+-- So it is with the reading that the arrays make where the code has stopped.
 pub record ReadSoFar (𝒯 : Tables) (P : Routine) (b : ℕ) (st : Reading) (r : Stopped) (registers words frames constants : List ℕ) : Type 0 where
   pub views : List ℕ
   pub fields : List ℕ
   pub since : ℕ
-  pub rest : readOn 𝒯 P b (P .long b) 0 st
-      ≡ then (numbered (noAt 𝒯 P b (r .at)) (r .number) (reading registers words frames constants views fields since (r .base)))
-      λ st'. readOn 𝒯 P b 1 (r .at) st'
+  pub left : LeftAt 𝒯 P b st (r .number) (r .at) (r .asked) (reading registers words frames constants views fields since (r .base))
   pub answers : isAnswer (r .number) ≡ true
+
+-- a no at an instruction of block b, or none
+abbrev pub verdictAt : ℕ → ℕ → ℕ → Verdict
+verdictAt number b i = pick (eqb number 0) passed (record { number = number; first = b; second = i })
+
+-- all blocks, and the fit questions that they put
+abbrev pub judged : Tables → Routine → CheckAnswer
+judged 𝒯 P = counting (verdictOf (judge 𝒯 P)) (askedFrom 𝒯 P (P .count) 0)

@@ -9,16 +9,18 @@ ghost use lib.ListN.{length};
 ghost use Rattle.model.specs.Question.{Question, Refusal, isAnswer, ok, verdictOf};
 ghost use Rattle.model.specs.Table.{codeOf, Routine, routineOf, tablesOf};
 ghost use Rattle.model.specs.Machine.{decode};
-ghost use Rattle.model.specs.Check.{readInstruction, blockAsk, judge, tablesAsk, check};
+ghost use Rattle.model.specs.Check.{readInstruction, blockAsk, tablesAsk};
+ghost use Rattle.model.specs.Cost.{instructionAsked, blockAsked, counting, checkAnswer};
 ghost use Rattle.instruction.specs.Rows.{opcodeRows};
 ghost use Rattle.known.specs.Numbers.{tablesIn};
 ghost use Rattle.access.specs.State.{Sizes, numbered};
 ghost use Rattle.branch.specs.End.{readingIn};
-ghost use Rattle.verify.specs.Blocks.{Starts, BlockAt, begun, Stops, ReadSoFar};
+ghost use Rattle.verify.specs.Blocks.{Starts, BlockAt, begun, Stops, ReadSoFar, verdictAt, judged};
 use access::Fetched;
 use access::NO_BASE;
 use access::Progress;
-use model::Verdict;
+use branch::EndAnswer;
+use model::CheckAnswer;
 use model::limit;
 use model::number;
 use table::answer;
@@ -26,11 +28,24 @@ use table::answer;
 // ---- blocks
 
 // Where the reading of a block has stopped: the number of a no, or 0 before its last instruction; the base of the open record; the
-// offset.
+// offset; how many fit questions were put.
 struct Stopped {
     number: u32,
     base: u32,
     at: usize,
+    asked: u32,
+}
+
+// How far the reading is, at an offset.
+fn reached(s: Progress, at: usize) -> Stopped
+    ensures { λ r. ⌜ r ≡ record { number = s .number; base = s .base; at = at; asked = s .asked } ⌝ }
+{
+    Stopped {
+        number: s.number,
+        base: s.base,
+        at: at,
+        asked: s.asked,
+    }
 }
 
 // Q7, Q8, Q10 to Q12 and Q23 of the instructions before the last of a block, whose code is part.
@@ -57,6 +72,7 @@ fn inside(
         number: number::PASSED,
         since: 0,
         base: NO_BASE,
+        asked: 0,
     };
     let n = part.len();
     let mut j = 0;
@@ -77,19 +93,11 @@ fn inside(
             i,
         );
         if s.number != number::PASSED {
-            return Stopped {
-                number: s.number,
-                base: s.base,
-                at: j,
-            };
+            return reached(s, j);
         }
         j += 1;
     }
-    Stopped {
-        number: number::PASSED,
-        base: s.base,
-        at: j,
-    }
+    reached(s, j)
 }
 
 // The block after b, or b itself where it is the last.
@@ -115,18 +123,24 @@ fn block_end(
     base: u32,
     word: u32,
     b: usize,
-) -> u32
+) -> EndAnswer
     requires { ⌜ (now rows ≡ opcodeRows) × (b * 9 + 9 ≤ length (now blocks)) × (length (now blocks) ≤ 2304) ⌝ }
     ensures { λ r. ⌜ ((place : Question → Refusal) (types code views fields : List ℕ) (since g : ℕ)
-        → numbered place r (readingIn registers words frames constants views fields since base)
+        → numbered place (r .number) (readingIn registers words frames constants views fields since base)
         ≡ readInstruction (tablesIn types tags) (routineOf (codeOf (now (blocks .entry)) code)) place b g true (decode word)
         (readingIn registers words frames constants views fields since base))
-        × (isAnswer r ≡ true) ⌝ }
+        × (isAnswer (r .number) ≡ true)
+        × ((types code views fields : List ℕ) (since : ℕ)
+        → r .asked ≡ instructionAsked (tablesIn types tags) (routineOf (codeOf (now (blocks .entry)) code)) b true (decode word)
+        (readingIn registers words frames constants views fields since base)) ⌝ }
 {
     let total = blocks.len() / limit::ROW_WORDS;
     let no = branch::may_end(rows, word, b as u32, total as u32, base);
     if no != number::PASSED {
-        return no;
+        return EndAnswer {
+            number: no,
+            asked: 0,
+        };
     }
     let taken = table::row(blocks, instruction::target(word) as usize);
     let untaken = table::row(blocks, next_block(b, total));
@@ -142,7 +156,18 @@ fn block_end(
     )
 }
 
-// Q7 to Q15 and Q23 of block b, whose code is part and starts at first.
+// What a block comes to: a no at its place or none, after so many fit questions.
+fn answered(number: u32, b: usize, index: usize, asked: u32) -> CheckAnswer
+    requires { ⌜ (b < 4294967296) × (index < 4294967296) ⌝ }
+    ensures { λ r. ⌜ r ≡ counting (verdictAt number b index) asked ⌝ }
+{
+    if number == number::PASSED {
+        return answer::counting(answer::passed(), asked);
+    }
+    answer::counting(answer::refused_at(number, b, index), asked)
+}
+
+// Q7 to Q15 and Q23 of block b, whose code is part and starts at first. The blocks before it have put so many fit questions.
 fn block(
     rows: &[[u32; 2]; instruction::OPCODES],
     types: &[u32],
@@ -151,11 +176,13 @@ fn block(
     part: &[u32],
     b: usize,
     first: usize,
-) -> Verdict
+    asked: u32,
+) -> CheckAnswer
     requires { ⌜ (now rows ≡ opcodeRows) × Sizes (now types) × (b * 9 + 9 ≤ length (now blocks)) × (length (now blocks) ≤ 2304)
-        × (1 ≤ length (now part)) × (length (now part) ≤ 32) × (first ≤ 8192) ⌝ }
+        × (1 ≤ length (now part)) × (length (now part) ≤ 32) × (first ≤ 8192) × (asked ≤ 131072) ⌝ }
     ensures { λ r. ⌜ ((code : List ℕ) → BlockAt (routineOf (codeOf (now (blocks .entry)) code)) b first (now (part .entry))
-        → r ≡ verdictOf (blockAsk (tablesOf (now (types .entry)) (now (tags .entry))) (routineOf (codeOf (now (blocks .entry)) code)) b)) ⌝ }
+        → r ≡ counting (verdictOf (blockAsk (tablesOf (now (types .entry)) (now (tags .entry))) (routineOf (codeOf (now (blocks .entry)) code)) b))
+        (asked + blockAsked (tablesOf (now (types .entry)) (now (tags .entry))) (routineOf (codeOf (now (blocks .entry)) code)) b)) ⌝ }
 {
     let own = table::row(blocks, b);
     let mut registers = [0u8, 1, 2, 3, 4, 5, 6, 7];
@@ -174,10 +201,11 @@ fn block(
         part,
     );
     let at = r.at;
+    let so_far = asked + r.asked;
     if r.number != number::PASSED {
-        return answer::refused_at(r.number, b, first + at);
+        return answered(r.number, b, first + at, so_far);
     }
-    let no = block_end(
+    let end = block_end(
         rows,
         tags,
         blocks,
@@ -189,10 +217,7 @@ fn block(
         part[at],
         b,
     );
-    if no != number::PASSED {
-        return answer::refused_at(no, b, first + at);
-    }
-    answer::passed()
+    answered(end.number, b, first + at, so_far + end.asked)
 }
 
 // Q7 to Q15 and Q23 of all blocks, in order. The code of block b is from starts[b] to starts[b + 1].
@@ -202,53 +227,63 @@ fn judge(
     blocks: &[u32],
     code: &[u32],
     starts: &[u32; limit::BLOCKS + 1],
-) -> Verdict
+) -> CheckAnswer
     requires { ⌜ (tablesAsk (now types) (now tags) (codeOf (now blocks) (now code)) ≡ ok tt) × Starts (now blocks) (now starts) ⌝ }
-    ensures { λ r. ⌜ r ≡ verdictOf (judge (tablesOf (now (types .entry)) (now (tags .entry)))
-        (routineOf (codeOf (now (blocks .entry)) (now (code .entry))))) ⌝ }
+    ensures { λ r. ⌜ r ≡ judged (tablesOf (now (types .entry)) (now (tags .entry))) (routineOf (codeOf (now (blocks .entry)) (now (code .entry)))) ⌝ }
 {
     let rows = instruction::opcode_rows();
     let count = blocks.len() / limit::ROW_WORDS;
+    let mut asked = 0;
     let mut b = 0;
     while b < count {
         let first = starts[b] as usize;
         let end = starts[b + 1] as usize;
-        let v = block(&rows, types, tags, blocks, &code[first..end], b, first);
+        let v = block(
+            &rows,
+            types,
+            tags,
+            blocks,
+            &code[first..end],
+            b,
+            first,
+            asked,
+        );
         if v.number != number::PASSED {
             return v;
         }
+        asked = v.asked;
         b += 1;
     }
-    answer::passed()
+    answer::counting(answer::passed(), asked)
 }
 
 // ---- the check
 
-// The check of a routine: the first no, with its place. All questions of the tables are asked here: so the compiler takes
+// The check of a routine: the first no, with its place, and the fit questions put. All questions of the tables are asked here: so the compiler takes
 // the blocks for what is seldom come to, and leaves `judge` a function of its own, in which the loops have the registers to themselves.
-pub fn check(types: &[u32], tags: &[u32], blocks: &[u32], code: &[u32]) -> Verdict
-    ensures { λ r. ⌜ r ≡ check (now (types .entry)) (now (tags .entry)) (codeOf (now (blocks .entry)) (now (code .entry))) ⌝ }
+pub fn check(types: &[u32], tags: &[u32], blocks: &[u32], code: &[u32]) -> CheckAnswer
+    ensures { λ r. ⌜ r ≡ checkAnswer (now (types .entry)) (now (tags .entry)) (codeOf (now (blocks .entry)) (now (code .entry))) ⌝ }
 {
     let type_lengths = table::type_lengths(types.len(), tags.len());
     if type_lengths.number != number::PASSED {
-        return type_lengths;
+        return answer::counting(type_lengths, 0);
     }
     let code_lengths = table::code_lengths(blocks.len(), code.len());
     if code_lengths.number != number::PASSED {
-        return code_lengths;
+        return answer::counting(code_lengths, 0);
     }
     let records = table::types(types, tags);
     if records.number != number::PASSED {
-        return records;
+        return answer::counting(records, 0);
     }
     let mut starts = [0u32; limit::BLOCKS + 1];
     let lengths = table::lengths(blocks, code, &mut starts);
     if lengths.number != number::PASSED {
-        return lengths;
+        return answer::counting(lengths, 0);
     }
     let annotations = table::annotations((types.len() / limit::ROW_WORDS) as u32, blocks);
     if annotations.number != number::PASSED {
-        return annotations;
+        return answer::counting(annotations, 0);
     }
     judge(types, tags, blocks, code, &starts)
 }

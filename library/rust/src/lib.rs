@@ -76,6 +76,34 @@ impl Verdict {
     }
 }
 
+/// What the check of a routine returns: number and place as in a [`Verdict`], and what the check costs.
+#[derive(Clone, Copy, Debug, PartialEq, Eq)]
+pub struct CheckAnswer {
+    pub number: u32,
+    pub first: u32,
+    pub second: u32,
+    /// How often it was asked whether a value fits a type, up to the answer: by a store that is not refused once for each field of its
+    /// record, by an edge of a jump or branch eight times, counted whole even where one fails. A refusal has its number too, 0 where it is
+    /// 1 to 6. It is at most 16 times the instructions examined.
+    pub asked: u32,
+}
+
+impl CheckAnswer {
+    pub const fn passed(self) -> bool {
+        self.verdict().passed()
+    }
+
+    /// What the number stands for; none for a number that no call gives.
+    pub const fn answer(self) -> Option<Answer> {
+        self.verdict().answer()
+    }
+
+    /// Number and place alone, as the other checks return them.
+    pub const fn verdict(self) -> Verdict {
+        Verdict { number: self.number, first: self.first, second: self.second }
+    }
+}
+
 /// What a run returns beside the memory that it leaves. Block and index are those of the halt, of the block to go on with where it is
 /// paused, and of the instruction that is refused by 7, 8, 9 or 18; the place of 1, 5, 16 and 17 is that of a [`Verdict`].
 #[derive(Clone, Copy, Debug, PartialEq, Eq)]
@@ -105,7 +133,7 @@ mod sys {
             blocks_words: usize,
             code: *const u32,
             code_words: usize,
-            place: *mut u32,
+            verdict: *mut u32,
         ) -> u32;
         pub fn ramdulsi_memory_check(
             types: *const u32,
@@ -150,16 +178,27 @@ mod sys {
     }
 }
 
-fn verdict(call: impl FnOnce(*mut u32) -> u32) -> Verdict {
-    let mut place = [0; 2];
-    let number = call(place.as_mut_ptr());
-    Verdict { number, first: place[0], second: place[1] }
-}
-
-/// Whether a routine is accepted over a type and a tag table.
-pub fn check(types: &[u32], tags: &[u32], blocks: &[u32], code: &[u32]) -> Verdict {
-    // SAFETY: each pointer comes with its slice's length, and the call writes the two words of place alone.
-    verdict(|place| unsafe {
+/// Whether a routine is accepted over a type and a tag table, and what it took to check it. The cost is the same on every machine, so a
+/// loading queue can go by it, cheapest first:
+///
+/// ```
+/// use ramdulsi::word::*;
+///
+/// const ANY: u32 = type_any();
+/// let types = row_of_type(&[ANY, ANY]);
+/// let block = |length| row_of_block(length, [ANY, type_ref(0), ANY, ANY, ANY, ANY, ANY, ANY]);
+/// let asked = |blocks: &[[u32; 9]], code: &[u32]| ramdulsi::check(&types, &[], &blocks.concat(), code).asked;
+///
+/// // a store to a record of two fields asks about both; a jump asks about eight registers, and a branch does so twice
+/// let stores = asked(&[block(2)], &[code_store(2, 1, 0), code_halt()]);
+/// let jumps = asked(&[block(1), block(1)], &[code_jump(1), code_halt()]);
+/// let branches = asked(&[block(1), block(1)], &[code_if_equal(2, 0, 1), code_halt()]);
+/// assert_eq!([stores, jumps, branches], [2, 8, 16]);
+/// ```
+pub fn check(types: &[u32], tags: &[u32], blocks: &[u32], code: &[u32]) -> CheckAnswer {
+    let mut verdict = [0; 3];
+    // SAFETY: each pointer comes with its slice's length, and the call writes the three words of verdict alone.
+    let number = unsafe {
         sys::ramdulsi_check(
             types.as_ptr(),
             types.len(),
@@ -169,14 +208,22 @@ pub fn check(types: &[u32], tags: &[u32], blocks: &[u32], code: &[u32]) -> Verdi
             blocks.len(),
             code.as_ptr(),
             code.len(),
-            place,
+            verdict.as_mut_ptr(),
         )
-    })
+    };
+    let [first, second, asked] = verdict;
+    CheckAnswer { number, first, second, asked }
+}
+
+fn verdict(call: impl FnOnce(*mut u32) -> u32) -> Verdict {
+    let mut place = [0; 2];
+    let number = call(place.as_mut_ptr());
+    Verdict { number, first: place[0], second: place[1] }
 }
 
 /// Whether every field of every allocated record meets its meaning.
 pub fn memory_check(types: &[u32], tags: &[u32], allocations: &[u32], memory: &[u32]) -> Verdict {
-    // SAFETY: as in `check`.
+    // SAFETY: each pointer comes with its slice's length, and the call writes the two words of place alone.
     verdict(|place| unsafe {
         sys::ramdulsi_memory_check(
             types.as_ptr(),
@@ -204,7 +251,7 @@ pub fn entry_check(
     block: u32,
     registers: [u32; 8],
 ) -> Verdict {
-    // SAFETY: as in `check`; the call reads eight words of registers.
+    // SAFETY: as in `memory_check`; the call reads eight words of registers.
     verdict(|place| unsafe {
         sys::ramdulsi_entry_check(
             types.as_ptr(),

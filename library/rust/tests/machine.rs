@@ -1,4 +1,5 @@
-//! The words that the binding makes, as the archive reads them: an instruction of each opcode carried out, a type of each kind checked.
+//! The words that the binding makes, as the archive reads them: an instruction of each opcode carried out, a type of each kind checked, and
+//! what checks cost.
 
 use ramdulsi::word::*;
 use ramdulsi::{check, entry_check, memory_check, run, Answer, Kind};
@@ -83,6 +84,49 @@ fn locked_fields() {
     let annotated = row_of_block(1, [type_locked(ANY); 8]);
     assert_eq!(check(&TYPES, &[], &annotated, &[code_halt()]).answer(), Some(Answer::Annotation));
     assert_eq!((Kind::of(types[1]), Kind::of(NO_WORD)), (Some(Kind::Ref), None));
+}
+
+/// Records of each size: a store counts their fields, whether the record is whole after it or open, unless it is refused itself.
+#[test]
+fn costs_of_stores() {
+    for n in 1..=8u32 {
+        let mut last_refers = vec![ANY; n as usize];
+        last_refers[n as usize - 1] = type_ref(0);
+        let types = [last_refers, vec![ANY; n as usize], vec![type_locked(ANY); n as usize]].map(|fields| row_of_type(&fields)).concat();
+        let cost = |code: &[u32]| {
+            let blocks = row_of_block(code.len() as u32, [ANY, type_ref(0), type_ref(1), type_ref(2), ANY, ANY, ANY, ANY]);
+            let checked = check(&types, &[], &blocks, code);
+            (checked.answer(), checked.asked)
+        };
+        let (opens, closes) = (code_store(4, 1, n - 1), code_store(1, 1, n - 1));
+        assert_eq!(cost(&[code_load(4, 1, 0), code_halt()]), (Some(Answer::Passed), 0));
+        assert_eq!(cost(&[closes, code_halt()]), (Some(Answer::Passed), n));
+        assert_eq!(cost(&[opens, closes, code_store(4, 2, 0), code_halt()]), (Some(Answer::Passed), 3 * n));
+        assert_eq!(cost(&[closes, code_store(1, 4, 0), code_halt()]), (Some(Answer::Reference), n));
+        assert_eq!(cost(&[closes, code_store(1, 1, n), code_halt()]), (Some(Answer::Offset), n));
+        assert_eq!(cost(&[closes, code_store(1, 3, 0), code_halt()]), (Some(Answer::LockedField), n));
+        assert_eq!(cost(&[opens, code_store(4, 2, 0), code_halt()]), (Some(Answer::OtherRecord), n));
+        assert_eq!(cost(&[opens, code_jump(0)]), (Some(Answer::OpenRecord), n));
+    }
+}
+
+/// Block 1 wants a type of r0. An edge counts eight, also one that fails; after a taken one that fails the untaken one is not asked about.
+#[test]
+fn costs_of_edges() {
+    let cost = |wanted, code| {
+        let blocks = [row_of_block(1, NOTHING), row_of_block(1, [wanted, ANY, ANY, ANY, ANY, ANY, ANY, ANY])].concat();
+        let checked = check(&TYPES, &[], &blocks, &[code, code_halt()]);
+        (checked.answer(), checked.asked)
+    };
+    let reference = type_ref(0);
+    assert_eq!(cost(reference, code_halt()), (Some(Answer::Passed), 0));
+    assert_eq!(cost(ANY, code_jump(1)), (Some(Answer::Passed), 8));
+    assert_eq!(cost(ANY, code_if_equal(2, 0, 1)), (Some(Answer::Passed), 16));
+    assert_eq!(cost(ANY, code_jump(2)), (Some(Answer::Target), 0));
+    assert_eq!(cost(reference, code_jump(1)), (Some(Answer::TakenEdge), 8));
+    assert_eq!(cost(reference, code_if_equal(2, 0, 1)), (Some(Answer::TakenEdge), 8));
+    assert_eq!(cost(reference, code_if_less(2, 3, 0)), (Some(Answer::UntakenEdge), 16));
+    assert_eq!(cost(NO_WORD, code_jump(1)), (Some(Answer::Annotation), 0));
 }
 
 #[test]

@@ -1,6 +1,6 @@
 //! Hunts for a broken promise of the plain implementation: `hunt [SEED [CASES]]`.
 
-use ramdulsi_reference::hunt::{numbered, turns, Seen};
+use ramdulsi_reference::hunt::{costs, numbered, turns, Seen};
 use ramdulsi_reference::Plain;
 
 fn main() {
@@ -10,7 +10,8 @@ fn main() {
     let mut seen = Seen::default();
     for k in 0..cases {
         let (mut r, c) = numbered(seed, k);
-        if let Err(story) = turns::<Plain>(&mut r, &c, &mut seen) {
+        let kept = turns::<Plain>(&mut r, &c, &mut seen).and_then(|()| costs::<Plain>(&mut r, &c, &mut seen));
+        if let Err(story) = kept {
             eprintln!("seed {seed}, case {k}: {story}");
             std::process::exit(1);
         }
@@ -19,4 +20,5 @@ fn main() {
         "seed {seed}: {cases} cases, {} accepted routines took {} turns, all safe; {} memories changed, {} locked words kept",
         seen.routines, seen.turns, seen.changed, seen.locked
     );
+    println!("seed {seed}: {} fit questions counted, at most 16 for each instruction examined", seen.asked);
 }

@@ -1,7 +1,7 @@
 //! What a row measures, and the words that its input is made of.
 
 use ramdulsi_reference::generate::Case;
-use ramdulsi_reference::{Loader, RunAnswer};
+use ramdulsi_reference::{CheckAnswer, Loader, RunAnswer};
 
 #[derive(Clone, Copy, PartialEq, Eq)]
 pub enum Call {
@@ -11,10 +11,14 @@ pub enum Call {
     Run,
 }
 
-/// The answer of a call; of a check its number and place.
+/// The answer of a call. That of a check is its number and place, and the fit questions of a routine's check in the place of the blocks
+/// finished, so that sides that differ in them differ.
 pub fn call<L: Loader>(which: Call, c: &Case, memory: &mut [u32]) -> RunAnswer {
     let v = match which {
-        Call::Check => L::check(&c.types, &c.tags, &c.blocks, &c.code),
+        Call::Check => {
+            let CheckAnswer { number, first, second, asked } = L::check(&c.types, &c.tags, &c.blocks, &c.code);
+            return RunAnswer { number, block: first, index: second, finished: u64::from(asked), registers: [0; 8] };
+        }
         Call::Memory => L::memory_check(&c.types, &c.tags, &c.allocations, memory),
         Call::Entry => L::entry_check(&c.types, &c.tags, &c.allocations, memory, &c.blocks, &c.code, c.block, c.registers),
         Call::Run => return L::run(&c.blocks, &c.code, memory, c.block, c.registers, c.budget),

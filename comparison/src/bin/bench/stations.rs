@@ -118,12 +118,12 @@ fn copies(c: &mut Case, blocks: &[([u32; 8], Vec<u32>)], times: usize) {
 }
 
 fn passes<L: Loader>(c: &Case) -> bool {
-    let verdicts = [
-        L::check(&c.types, &c.tags, &c.blocks, &c.code),
-        L::memory_check(&c.types, &c.tags, &c.allocations, &c.memory),
-        L::entry_check(&c.types, &c.tags, &c.allocations, &c.memory, &c.blocks, &c.code, c.block, c.registers),
+    let numbers = [
+        L::check(&c.types, &c.tags, &c.blocks, &c.code).number,
+        L::memory_check(&c.types, &c.tags, &c.allocations, &c.memory).number,
+        L::entry_check(&c.types, &c.tags, &c.allocations, &c.memory, &c.blocks, &c.code, c.block, c.registers).number,
     ];
-    verdicts.iter().all(|v| v.number == 0)
+    numbers == [0; 3]
 }
 
 /// The case, once all three checks of both libraries passed it.

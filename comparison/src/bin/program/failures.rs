@@ -127,7 +127,7 @@ pub fn broken(program: &Program) -> Outcome {
     command.stdin(Stdio::from(OwnedFd::from(theirs)));
     let said = finish(command, b"")?;
     failed(program, &said, "standard input", 3..=3, "Connection reset by peer")?;
-    if said.out != b"1 1 0 0\n" {
+    if said.out != b"1 1 0 0 0\n" {
         return Err(format!("a read that fails in line 3: answers {}", shown(&said.out)));
     }
     Ok(format!("a read that fails within line 3 is named so, the lines before it are answered, and the status is {}", program.status(3)))

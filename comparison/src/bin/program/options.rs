@@ -83,8 +83,9 @@ pub fn files(program: &Program) -> Outcome {
     let said = program.ask(&["--lines", "open", "-", "last"], INPUT.as_bytes())?;
     answered(program, &said, &wanted, 1, "standard input between two files")?;
     answered(program, &program.ask(&["empty"], b"check 1")?, b"", 0, "an empty file")?;
-    answered(program, &program.ask(&["open", "empty", "open"], b"")?, b"0 0 0\n0 0 0\n", 0, "a line without an end, then another file")?;
-    answered(program, &program.ask(&["last", "open"], b"")?, b"1 0 0\n0 0 0\n", 1, "a file with a refusal, then one without")?;
+    let said = program.ask(&["open", "empty", "open"], b"")?;
+    answered(program, &said, b"0 0 0 0\n0 0 0 0\n", 0, "a line without an end, then another file")?;
+    answered(program, &program.ask(&["last", "open"], b"")?, b"1 0 0 0\n0 0 0 0\n", 1, "a file with a refusal, then one without")?;
     Ok("files are read in order, - is standard input, each begins on a new line with number 1, and an empty one gets no answer".into())
 }
 
@@ -93,10 +94,10 @@ pub fn dashes(program: &Program) -> Outcome {
         program.file(name, REFUSED.as_bytes());
     }
     let said = program.ask(&["--lines", "--", "--words", "-x", "--", "-h"], b"")?;
-    answered(program, &said, b"1 1 0 0\n1 1 0 0\n1 1 0 0\n1 1 0 0\n", 1, "files after --")?;
-    answered(program, &program.ask(&["--"], REFUSED.as_bytes())?, b"1 0 0\n", 1, "-- alone")?;
-    answered(program, &program.ask(&["--", "-"], REFUSED.as_bytes())?, b"1 0 0\n", 1, "-- and -")?;
-    answered(program, &program.ask(&["-"], PASSED.as_bytes())?, b"0 0 0\n", 0, "- alone")?;
+    answered(program, &said, b"1 1 0 0 0\n1 1 0 0 0\n1 1 0 0 0\n1 1 0 0 0\n", 1, "files after --")?;
+    answered(program, &program.ask(&["--"], REFUSED.as_bytes())?, b"1 0 0 0\n", 1, "-- alone")?;
+    answered(program, &program.ask(&["--", "-"], REFUSED.as_bytes())?, b"1 0 0 0\n", 1, "-- and -")?;
+    answered(program, &program.ask(&["-"], PASSED.as_bytes())?, b"0 0 0 0\n", 0, "- alone")?;
     Ok("-- ends the options, and - alone is standard input".into())
 }
 

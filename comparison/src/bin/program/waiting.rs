@@ -171,10 +171,10 @@ pub fn before(program: &Program) -> Outcome {
     let mut child = text(program.command(&["good", "-"]).spawn())?;
     let mut stdin = child.stdin.take().expect("a pipe");
     for _ in 0..3 {
-        let mut early = [0; 6];
+        let mut early = [0; 8];
         let read = child.stdout.as_mut().expect("a pipe").read_exact(&mut early);
         read.map_err(|_| "an answer does not come while standard input is open")?;
-        if early != *b"0 0 0\n" {
+        if early != *b"0 0 0 0\n" {
             return Err(format!("the answer is {early:?}"));
         }
         text(stdin.write_all(PASSED.as_bytes()))?;

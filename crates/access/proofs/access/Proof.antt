@@ -1,10 +1,11 @@
 -- `access::access` meets its contract.
-use mathlib.Core.Path.{sym, _∙_}
+use mathlib.Core.Path.{sym, ap, _∙_}
+use Prim.Native.Nat.{ℕ, _+_}
 use Rattle.model.specs.Question.{q10}
 use Rattle.model.proofs.Logic.{answer-of}
 use borrow.Author.Needs.{needs}
-use Rattle.access.proofs.Outcomes.{number-of}
-use Rattle.access.proofs.Fields.{Parts, access-nothing, access-on}
+use Rattle.access.proofs.Outcomes.{number-of, asked-of, none-more}
+use Rattle.access.proofs.Fields.{Parts, access-nothing, nothing-asked, access-on, access-asked}
 use Rattle.access.proofs.access.Statement.{statement}
 use Rattle.access.proofs.access.Tie as tie
 
@@ -56,9 +57,11 @@ returns c =
     let r = c .before .before .before in
     let w = read r in
     let n = number-of (c .refused .ensures) in
+    let told = c .before .enum-told .given .1 in
     record {
-      outcome = λ place. access-nothing (parts w) (start w .pre .0) _ _ _ _ (sym (c .before .enum-told .given .1) ∙ r .reference .ensures _) _ n _;
+      outcome = λ place. access-nothing (parts w) (start w .pre .0) _ _ _ _ (sym told ∙ r .reference .ensures _) _ n _;
       answers = answer-of _ q10 n;
+      count = none-more (asked-of (c .refused .ensures)) (nothing-asked (parts w) (start w .pre .0) _ _ (sym told ∙ r .reference .ensures _));
     }
 
 opcode-requires : tie.Need-opcode-requires
@@ -67,8 +70,8 @@ opcode-requires c κs = search needs
 touch-requires : tie.Need-touch-requires
 touch-requires c κs =
     let w = read (referred (opcode c)) in
-    let (f, g, n, r) = start w .pre in
-    (g, rw (parts w .a-is) (f .a-exists), n, r)
+    let (f, g, n, r, a) = start w .pre in
+    (g, rw (parts w .a-is) (f .a-exists), n, r, a)
 
 returns-2 : tie.Need-returns-2
 returns-2 c =
@@ -81,6 +84,9 @@ returns-2 c =
           c .touch .ensures .outcome place
           ∙ access-on (parts w) (start w .pre .0) _ _ _ _ _ (sym (t .t .given .1) ∙ r .reference .ensures _) _ (o .opcode .ensures .0);
       answers = c .touch .ensures .answers;
+      count = c .touch .ensures .count
+          ∙ ap (λ (k : ℕ). start w .args .i .s .asked + k)
+          (access-asked (parts w) (start w .pre .0) _ _ _ (sym (t .t .given .1) ∙ r .reference .ensures _) _ (o .opcode .ensures .0));
     }
 
 pub access-spec : {M : Type 1} → statement M

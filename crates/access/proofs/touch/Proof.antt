@@ -1,6 +1,6 @@
 -- `access::touch` meets its contract.
-use mathlib.Core.Path.{_≡_, refl, sym, _∙_}
-use mathlib.Core.List.{List}
+use mathlib.Core.Path.{_≡_, refl, sym, ap, _∙_}
+use mathlib.Core.List.{List, []}
 use Prim.Native.Nat.{ℕ, _*_, _+_, _≤_, _<_}
 use native.Mathlib.Omega.{arith}
 use denote.Ref.{now}
@@ -10,8 +10,8 @@ use Rattle.model.specs.Table.{tablesOf, headOf}
 use Rattle.model.proofs.Logic.{answer-of}
 use borrow.Author.Needs.{needs}
 use Rattle.table.proofs.Laws.{tables-size}
-use Rattle.access.proofs.Outcomes.{number-of}
-use Rattle.access.proofs.Fields.{touch-offset, touch-load, touch-store}
+use Rattle.access.proofs.Outcomes.{number-of, asked-of, none-more}
+use Rattle.access.proofs.Fields.{touch-offset, offset-asked, touch-load, load-asked, touch-store, store-asked}
 use Rattle.access.proofs.touch.Statement.{statement}
 use Rattle.access.proofs.touch.Tie as tie
 
@@ -64,7 +64,11 @@ returns : tie.Need-returns
 returns c =
     let s = c .before .before .before in
     let n = number-of (c .refused .ensures) in
-    record { outcome = λ place. touch-offset _ _ _ _ _ _ _ _ _ _ (size-is s _) (omega arith) _ n _; answers = answer-of _ q11 n }
+    record {
+      outcome = λ place. touch-offset _ _ _ _ _ _ _ _ _ _ (size-is s _) (omega arith) _ n _;
+      answers = answer-of _ q11 n;
+      count = none-more (asked-of (c .refused .ensures)) (offset-asked _ _ _ _ _ _ _ (size-is s _) (omega arith));
+    }
 
 look-requires : tie.Need-look-requires
 look-requires c κs = omega (arith, known (c .before .before .before .before .before))
@@ -83,13 +87,14 @@ returns-2 c =
           c .load .ensures .0 place _ _ _ _ _ _
           ∙ touch-load _ _ _ _ _ _ _ _ _ _ (size-is s _) (known i .offset) _ (l .look .ensures (now (start s .args .registers)) _) refl (t .if2 .taken);
       answers = c .load .ensures .1;
+      count = none-more (c .load .ensures .2) (load-asked _ _ _ _ _ _ (t .if2 .taken));
     }
 
 element-copy-out-value : tie.Need-element-copy-out-value
 element-copy-out-value c = search needs
 
 store-requires : tie.Need-store-requires
-store-requires c κs = let k = known (inside (stores c .before)) in (k .size, k .most, k .offset, k .row-exists, omega arith)
+store-requires c κs = let k = known (inside (stores c .before)) in (k .size, k .most, k .offset, k .row-exists, omega arith, omega arith)
 
 returns-3 : tie.Need-returns-3
 returns-3 c =
@@ -102,6 +107,9 @@ returns-3 c =
           c .store .ensures .0 place _ _
           ∙ touch-store _ _ _ _ _ _ _ _ _ _ (size-is s _) (known i .offset) _ (l .look .ensures (now (start s .args .registers)) _) refl (e .if2 .left);
       answers = c .store .ensures .1;
+      count = c .store .ensures .2 [] []
+          ∙ ap (λ (k : ℕ). start s .args .s .asked + k)
+          (store-asked _ _ _ _ _ _ _ (size-is s _) (known i .offset) _ refl (e .if2 .left));
     }
 
 pub touch-spec : {M : Type 1} → statement M

@@ -11,8 +11,17 @@ returns c = let s = c .before in unremarked (s .args .worded) (s .args .g) (now 
 explain-requires : tie.Need-explain-requires
 explain-requires c κs = omega (arith, c .before .before .pre)
 
+cost-requires : tie.Need-cost-requires
+cost-requires c κs =
+    let x = c .before in
+    omega (arith, x .explain .ensures .short, x .explain .ensures .appended .end, x .before .before .before .pre)
+
 returns-2 : tie.Need-returns-2
-returns-2 c = let e = c .before .before in remarked (e .before .args .worded) (e .before .args .g) _ _ _ (e .if1 .left) (c .explain .ensures)
+returns-2 c =
+    let x = c .before .before in
+    let e = x .before .before in
+    let s = e .before .args in
+    remarked (s .worded) (s .g) _ _ _ _ _ (e .if1 .left) (x .explain .ensures) (c .cost .ensures .0) (c .cost .ensures .1)
 
 pub remark-spec : {M : Type 1} → statement M
-remark-spec = tie.close (tie.spec returns explain-requires returns-2)
+remark-spec = tie.close (tie.spec returns explain-requires cost-requires returns-2)

@@ -12,20 +12,20 @@ use Rattle.answers.proofs.request.Tie as tie
 check-requires : tie.Need-check-requires
 check-requires c κs = search needs
 
-judged-requires : tie.Need-judged-requires
-judged-requires c κs = search needs
+checked-requires : tie.Need-checked-requires
+checked-requires c κs = search needs
 
 memory-check-requires : tie.Need-memory-check-requires
 memory-check-requires c κs = search needs
 
-judged-requires-2 : tie.Need-judged-requires-2
-judged-requires-2 c κs = search needs
+judged-requires : tie.Need-judged-requires
+judged-requires c κs = search needs
 
 entry-check-requires : tie.Need-entry-check-requires
 entry-check-requires c κs = search needs
 
-judged-requires-3 : tie.Need-judged-requires-3
-judged-requires-3 c κs = search needs
+judged-requires-2 : tie.Need-judged-requires-2
+judged-requires-2 c κs = search needs
 
 long-requires : tie.Need-long-requires
 long-requires c κs = search needs
@@ -56,14 +56,14 @@ returns : tie.Need-returns
 returns c =
     let t = c .before .before .before in
     let k = t .before in
-    gives-same _ _ _ _ _ _ (asks-check (form k) (parts k) (longs k) _ (t .if1 .taken) (c .before .check .ensures)) (c .judged .ensures)
+    gives-same _ _ _ _ _ _ (asks-check (form k) (parts k) (longs k) _ (t .if1 .taken) (c .before .check .ensures)) (c .checked .ensures)
 
 returns-2 : tie.Need-returns-2
 returns-2 c =
     let t = c .before .before .before in
     let e = t .before in
     let k = e .before in
-    gives-same _ _ _ _ _ _ (asks-memory (form k) (parts k) (longs k) (e .if1 .left) _ (t .if2 .taken) (c .before .memory-check .ensures)) (c .judged2 .ensures)
+    gives-same _ _ _ _ _ _ (asks-memory (form k) (parts k) (longs k) (e .if1 .left) _ (t .if2 .taken) (c .before .memory-check .ensures)) (c .judged .ensures)
 
 returns-3 : tie.Need-returns-3
 returns-3 c =
@@ -73,7 +73,7 @@ returns-3 c =
     gives-same
     _ _ _ _ _ _
     (asks-entry (form k) (parts k) (longs k) (e .before .if1 .left) (e .if2 .left) _ (t .if3 .taken) (c .before .entry-check .ensures))
-    (c .judged3 .ensures)
+    (c .judged2 .ensures)
 
 returns-4 : tie.Need-returns-4
 returns-4 c =
@@ -90,13 +90,13 @@ request-spec =
     tie.close
     (tie.spec
     check-requires
-    judged-requires
+    checked-requires
     returns
     memory-check-requires
-    judged-requires-2
+    judged-requires
     returns-2
     entry-check-requires
-    judged-requires-3
+    judged-requires-2
     returns-3
     long-requires
     run-request-requires

@@ -7,7 +7,7 @@ use Rattle.model.specs.Word.{opcodeOf}
 use Rattle.model.proofs.Logic.{answer-of}
 use Rattle.instruction.proofs.Parts.{known, registers}
 use borrow.Author.Needs.{needs}
-use Rattle.branch.proofs.Ends.{edges-halt, jump-no, jump-yes, fork-edges}
+use Rattle.branch.proofs.Ends.{edges-halt, jump-no, jump-yes, fork-edges, halt-asked, jump-asked, fork-asked}
 use Rattle.branch.proofs.edges.Statement.{statement}
 use Rattle.branch.proofs.edges.Tie as tie
 
@@ -35,21 +35,29 @@ opcode-requires : tie.Need-opcode-requires
 opcode-requires c κs = search needs
 
 returns : tie.Need-returns
-returns c = (λ P b leads place types views fields since base. edges-halt _ P place b _ _ (omega arith), refl)
+returns c = (
+  λ P b leads place types views fields since base. edges-halt _ P place b _ _ (omega arith),
+  refl,
+  λ P b leads types views fields since base. halt-asked _ P _ _ (omega arith),
+)
 
 edge-requires : tie.Need-edge-requires
 edge-requires c κs = search needs
 
 returns-2 : tie.Need-returns-2
 returns-2 c =
-    let f = c .before .edge .ensures in
-    (λ P b leads place types views fields since base. jump-yes _ P place b _ _ (omega arith) _ _ leads _ (f types) (c .if3 .taken), refl)
+    let f = c .before .edge .ensures in (
+      λ P b leads place types views fields since base. jump-yes _ P place b _ _ (omega arith) _ _ leads _ (f types) (c .if3 .taken),
+      refl,
+      λ P b leads types views fields since base. jump-asked _ P _ _ (omega arith),
+    )
 
 returns-3 : tie.Need-returns-3
 returns-3 c =
     let f = c .before .edge .ensures in (
       λ P b leads place types views fields since base. jump-no _ P place b _ _ (omega arith) _ _ leads _ (f types) (c .if3 .left),
       answer-of _ q14 refl,
+      λ P b leads types views fields since base. jump-asked _ P _ _ (omega arith),
     )
 
 learn-requires : tie.Need-learn-requires
@@ -70,6 +78,9 @@ returns-4 c =
           c .fork .ensures .0 place types
           ∙ fork-edges _ P place b′ _ _ _ _ leads (b .least) (b .most) _ _ _ _ (l .learn .ensures .0 views fields since base),
       c .fork .ensures .1,
+      λ P b′ leads types views fields since base.
+          c .fork .ensures .2 types
+          ∙ fork-asked _ P b′ _ _ _ _ leads (b .least) (b .most) _ _ _ _ (l .learn .ensures .0 views fields since base),
     )
 
 pub edges-spec : {M : Type 1} → statement M

@@ -1,12 +1,15 @@
 -- `straight::step` meets its contract: a law for each kind of instruction.
-use mathlib.Core.Path.{_≡_}
+use mathlib.Core.Path.{_≡_, refl}
+use Prim.Native.Nat.{_<_}
 use native.Mathlib.Omega.{arith}
 use denote.Ref.{now}
+use Rattle.model.specs.Word.{opcodeOf}
 use Rattle.model.proofs.Logic.{answer-none}
 use borrow.Author.Needs.{needs}
 use Rattle.known.proofs.Numbers.{frames-at}
+use Rattle.access.proofs.Outcomes.{none-more}
 use Rattle.access.proofs.Fields.{Parts}
-use Rattle.straight.proofs.Steps.{fresh-is, step-copy, step-constant, step-move, step-arithmetic}
+use Rattle.straight.proofs.Steps.{fresh-is, step-copy, step-constant, step-move, step-arithmetic, plain-unasked}
 use Rattle.straight.proofs.step.Statement.{statement}
 use Rattle.straight.proofs.step.Tie as tie
 
@@ -30,6 +33,9 @@ parts c = record { a-is = c .before .before .a .ensures .0; b-is = c .before .b 
 goes-on : (c : tie.After-c) → start (opcode c) .args .i .s .number ≡ 0
 goes-on c = start (opcode c) .pre .2
 
+below-load : (c : tie.After-c) → opcodeOf (start (opcode c) .args .i .word) < 8
+below-load c = omega (arith, opcode c .opcode .ensures .0)
+
 -- ---- the needs
 
 opcode-requires : tie.Need-opcode-requires
@@ -38,8 +44,8 @@ opcode-requires c κs = search needs
 access-requires : tie.Need-access-requires
 access-requires c κs =
     let t = c .before .before .before .before .before .before in
-    let (f, g, n, r) = start (t .before) .pre in
-    (record { well = f .well; from = omega arith; to = f .to; a-exists = f .a-exists; b-exists = f .b-exists }, g, n, r)
+    let (f, g, n, r, a) = start (t .before) .pre in
+    (record { well = f .well; from = omega arith; to = f .to; a-exists = f .a-exists; b-exists = f .b-exists }, g, n, r, a)
 
 returns : tie.Need-returns
 returns c = search needs
@@ -67,6 +73,7 @@ returns-2 c =
           step-constant (parts k) _ _ _ _ _ (goes-on k) _ (omega arith)
           (fresh-is _ _ _ _ _ _ _ _ _ _ _ _ _ _ _ _ _ (c .fresh .ensures));
       answers = answer-none _ (goes-on k);
+      count = none-more refl (plain-unasked _ _ _ (below-load k));
     }
 
 element-copy-out-registers : tie.Need-element-copy-out-registers
@@ -78,7 +85,11 @@ element-write-registers c = search needs
 returns-3 : tie.Need-returns-3
 returns-3 c =
     let k = c .before .before .before in
-    record { outcome = λ place. step-copy (parts k) _ _ _ _ _ (goes-on k) (omega arith); answers = answer-none _ (goes-on k) }
+    record {
+      outcome = λ place. step-copy (parts k) _ _ _ _ _ (goes-on k) (omega arith);
+      answers = answer-none _ (goes-on k);
+      count = none-more refl (plain-unasked _ _ _ (below-load k));
+    }
 
 fresh-requires-2 : tie.Need-fresh-requires-2
 fresh-requires-2 c κs = search needs
@@ -91,6 +102,7 @@ returns-4 c =
           step-arithmetic (parts k) _ _ _ _ _ (goes-on k) _ (omega arith) (omega arith)
           (fresh-is _ _ _ _ _ _ _ _ _ _ _ _ _ _ _ _ _ (c .fresh2 .ensures));
       answers = answer-none _ (goes-on k);
+      count = none-more refl (plain-unasked _ _ _ (below-load k));
     }
 
 element-copy-out-index : tie.Need-element-copy-out-index
@@ -124,6 +136,7 @@ returns-5 c =
           step-move (parts k) _ _ _ _ _ (goes-on k) _ (omega arith) _ _ _ (i .index .ensures .0) (m .moved-word .ensures _)
           (frames-at (now (start (opcode k) .args .frames)) _) (fresh-is _ _ _ _ _ _ _ _ _ _ _ _ _ _ _ _ _ (c .fresh3 .ensures));
       answers = answer-none _ (goes-on k);
+      count = none-more refl (plain-unasked _ _ _ (below-load k));
     }
 
 pub step-spec : {M : Type 1} → statement M

@@ -1,14 +1,15 @@
 -- `verify::block` meets its contract: the instructions before the last, then the last.
-use mathlib.Core.Path.{sym, ap, _∙_}
+use mathlib.Core.Path.{ap, _∙_}
+use mathlib.Core.List.{[]}
 use Prim.Native.Nat.{_*_, _+_, _≤_}
 use native.Mathlib.Omega.{arith}
 use denote.Ref.{now}
 use lib.ListN.{length}
-use Rattle.model.specs.Question.{verdictOf}
 use Rattle.model.specs.Table.{codeOf}
 use Rattle.model.specs.Reading.{laidAt}
+use Rattle.model.proofs.Cost.{last-bound}
 use Rattle.access.proofs.Fields.{part-is, part-length, row-words}
-use Rattle.verify.proofs.Blocks.{block-begins, block-stops, block-refuses, block-passes}
+use Rattle.verify.proofs.Blocks.{block-begins, block-stops, block-ends}
 use borrow.Author.Needs.{needs}
 use Rattle.verify.proofs.block.Statement.{statement}
 use Rattle.verify.proofs.block.Tie as tie
@@ -24,11 +25,18 @@ rowed c = c .before .before .before
 abbrev laid : tie.After-inside → tie.After-copy-row
 laid c = c .before .before .before .before .before
 
+abbrev read-to : tie.Else1 → tie.After-inside
+read-to c = c .before .before .before
+
 abbrev passed : tie.After-block-end → tie.Else1
 passed c = c .before .before .before .before .before .before
 
 row-exists : (c : tie.After-row) → start c .args .b * 9 + 9 ≤ length (now (start c .args .blocks))
 row-exists c = start c .pre .2
+
+-- the last instruction puts at most 16 fit questions
+few : (c : tie.After-block-end) → c .block-end .result .asked ≤ 16
+few c = rw (c .block-end .ensures .2 [] [] [] [] 0) (last-bound _ _ _ _ _)
 
 -- ---- the needs
 
@@ -50,66 +58,55 @@ copy-row-requires c κs = let r = c .before .before in omega (arith, part-length
 inside-requires : tie.Need-inside-requires
 inside-requires c κs = search needs
 
-add-refused-at : tie.Need-add-refused-at
-add-refused-at c = search needs
+add-so-far : tie.Need-add-so-far
+add-so-far c = search needs
 
-refused-at-requires : tie.Need-refused-at-requires
-refused-at-requires c κs = search needs
+add-answered : tie.Need-add-answered
+add-answered c = search needs
+
+answered-requires : tie.Need-answered-requires
+answered-requires c κs = search needs
 
 returns : tie.Need-returns
 returns c =
-    let i = c .before .before .before in
+    let i = c .before .before .before .before in
     let l = laid i in
     λ code B.
-    c .refused-at .ensures
-    ∙ block-stops B (i .inside .ensures .0 _ _ _ B) (c .before .if1 .taken)
-    ∙ ap verdictOf (sym (block-begins _ (codeOf _ code) _ _ (l .copy-row .ensures ∙ ap (laidAt _ 0) (part-is _ _ _ (rowed l .row .ensures)))))
+    let begins = block-begins (codeOf _ code) _ _ (l .copy-row .ensures ∙ ap (laidAt _ 0) (part-is _ _ _ (rowed l .row .ensures))) in
+    c .answered .ensures ∙ block-stops B (i .inside .ensures .0 _ _ _ B) begins _ (c .before .if1 .taken)
 
 mul-block-end : tie.Need-mul-block-end
-mul-block-end c = search needs
+mul-block-end c = let i = read-to (c .before .before .before .before) in omega (arith, i .inside .ensures .1, start (rowed (laid i)) .pre)
 
 shared-slice-read-block-end : tie.Need-shared-slice-read-block-end
 shared-slice-read-block-end c = search needs
 
 block-end-requires : tie.Need-block-end-requires
-block-end-requires c κs = search needs
+block-end-requires c κs = let p = start (rowed (laid (read-to (c .before .before .before .before .before)))) .pre in (p .0, p .2, p .3)
 
-add-refused-at-2 : tie.Need-add-refused-at-2
-add-refused-at-2 c =
-    let i = passed (c .before) .before .before in
-    omega (arith, i .inside .ensures .1, start (rowed (laid i)) .pre)
+add-answered-2 : tie.Need-add-answered-2
+add-answered-2 c = let i = read-to (passed c) in omega (arith, i .inside .ensures .1, start (rowed (laid i)) .pre)
 
-refused-at-requires-2 : tie.Need-refused-at-requires-2
-refused-at-requires-2 c κs =
-    let i = passed (c .before) .before .before in
-    omega (arith, i .inside .ensures .1, start (rowed (laid i)) .pre)
+add-answered-3 : tie.Need-add-answered-3
+add-answered-3 c =
+    let a = c .before in
+    let i = read-to (passed a) in
+    omega (arith, few a, i .inside .ensures .1, start (rowed (laid i)) .pre)
+
+answered-requires-2 : tie.Need-answered-requires-2
+answered-requires-2 c κs = let i = read-to (passed (c .before)) in omega (arith, i .inside .ensures .1, start (rowed (laid i)) .pre)
 
 returns-2 : tie.Need-returns-2
 returns-2 c =
     let a = c .before .before in
     let p = passed a in
-    let i = p .before .before in
+    let i = read-to p in
     let l = laid i in
     λ code B.
-    c .refused-at2 .ensures
-    ∙ block-refuses B (i .inside .ensures .0 _ _ _ B) (p .if1 .left) (i .inside .ensures .1 .end (p .if1 .left)) _
-    (λ place. a .block-end .ensures .0 place _ code _ _ _ _) (c .before .if2 .taken) (a .block-end .ensures .1)
-    ∙ ap verdictOf (sym (block-begins _ (codeOf _ code) _ _ (l .copy-row .ensures ∙ ap (laidAt _ 0) (part-is _ _ _ (rowed l .row .ensures)))))
-
-passed-requires : tie.Need-passed-requires
-passed-requires c κs = search needs
-
-returns-3 : tie.Need-returns-3
-returns-3 c =
-    let a = c .before .before in
-    let p = passed a in
-    let i = p .before .before in
-    let l = laid i in
-    λ code B.
-    c .passed .ensures
-    ∙ block-passes B (i .inside .ensures .0 _ _ _ B) (p .if1 .left) (i .inside .ensures .1 .end (p .if1 .left)) _
-    (λ place. a .block-end .ensures .0 place _ code _ _ _ _) (c .before .if2 .left)
-    ∙ ap verdictOf (sym (block-begins _ (codeOf _ code) _ _ (l .copy-row .ensures ∙ ap (laidAt _ 0) (part-is _ _ _ (rowed l .row .ensures)))))
+    let begins = block-begins (codeOf _ code) _ _ (l .copy-row .ensures ∙ ap (laidAt _ 0) (part-is _ _ _ (rowed l .row .ensures))) in
+    c .answered2 .ensures
+    ∙ block-ends B (i .inside .ensures .0 _ _ _ B) begins _ (p .if1 .left) (i .inside .ensures .1 .end (p .if1 .left)) _ _
+    (λ place. a .block-end .ensures .0 place _ code _ _ _ _) (a .block-end .ensures .2 _ code _ _ _) (a .block-end .ensures .1)
 
 pub block-spec : {M : Type 1} → statement M
 block-spec =
@@ -121,14 +118,14 @@ block-spec =
     part-copy-row-end
     copy-row-requires
     inside-requires
-    add-refused-at
-    refused-at-requires
+    add-so-far
+    add-answered
+    answered-requires
     returns
     mul-block-end
     shared-slice-read-block-end
     block-end-requires
-    add-refused-at-2
-    refused-at-requires-2
-    returns-2
-    passed-requires
-    returns-3)
+    add-answered-2
+    add-answered-3
+    answered-requires-2
+    returns-2)

@@ -1,4 +1,5 @@
 -- `verify::block_end` meets its contract: Q7 to Q9 and Q13, then the edges to the rows of the target and of the next block.
+use mathlib.Core.Path.{_∙_}
 use Prim.Native.Nat.{_*_, _+_, _≤_}
 use native.Mathlib.Omega.{arith}
 use denote.Ref.{now}
@@ -7,7 +8,7 @@ use Rattle.model.specs.Table.{codeOf, rows}
 use Rattle.instruction.specs.Form.{Ending}
 use Rattle.access.proofs.Fields.{part-is, part-length, row-words}
 use Rattle.table.proofs.Laws.{routine-count}
-use Rattle.branch.proofs.Ends.{end-word, end-answers, end-refuses, end-reads}
+use Rattle.branch.proofs.Ends.{end-word, end-answers, end-refuses, end-unasked, end-reads, end-asked}
 use Rattle.verify.proofs.Blocks.{target-row, leads}
 use borrow.Author.Needs.{needs}
 use Rattle.verify.proofs.block_end.Statement.{statement}
@@ -50,8 +51,11 @@ may-end-requires c κs = search needs
 
 returns : tie.Need-returns
 returns c =
-    let m = c .before .may-end .ensures in
-    (λ place types code views fields since g. end-refuses _ _ _ _ _ _ _ _ _ (routine-count (codeOf _ code)) m (c .if1 .taken), end-answers _ _ _ _ _ m)
+    let m = c .before .may-end .ensures in (
+      λ place types code views fields since g. end-refuses _ _ _ _ _ _ _ _ _ (routine-count (codeOf _ code)) m (c .if1 .taken),
+      end-answers _ _ _ _ _ m,
+      λ types code views fields since. end-unasked _ _ _ _ _ _ _ (routine-count (codeOf _ code)) m (c .if1 .taken),
+    )
 
 target-requires : tie.Need-target-requires
 target-requires c κs = let e = ending c in (e .well, e .ends)
@@ -101,14 +105,17 @@ returns-2 : tie.Need-returns-2
 returns-2 c =
     let n = c .before .before .before .before in
     let t = target n in
-    let p = passed t in (
+    let p = passed t in
+    let m = p .before .may-end .ensures in
+    let leading = leads _ _ _ (ending p .exist) _ _ (t .before .target .ensures) (n .before .next-block .ensures .1) _ _ (part-is _ _ _ (t .row .ensures))
+    (part-is _ _ _ (n .row2 .ensures)) in (
       λ place types code views fields since g.
-          end-reads _ _ _ _ _ _ _ _ _ (routine-count (codeOf _ code)) (p .before .may-end .ensures) (p .if1 .left) _
-          (c .edges .ensures .0 _ _
-          (leads _ _ _ (ending p .exist) _ _ (t .before .target .ensures) (n .before .next-block .ensures .1) _ _ (part-is _ _ _ (t .row .ensures))
-          (part-is _ _ _ (n .row2 .ensures)) code)
-          place types views fields since _),
+          end-reads _ _ _ _ _ _ _ _ _ (routine-count (codeOf _ code)) m (p .if1 .left) _
+          (c .edges .ensures .0 _ _ (leading code) place types views fields since _),
       c .edges .ensures .1,
+      λ types code views fields since.
+          c .edges .ensures .2 _ _ (leading code) types views fields since _
+          ∙ end-asked _ _ _ _ _ _ _ (routine-count (codeOf _ code)) m (p .if1 .left),
     )
 
 pub block-end-spec : {M : Type 1} → statement M

@@ -57,33 +57,50 @@ code-lengths c = code-lengths-passed _ _ _ (c .before .before .code-lengths .ens
 type-lengths-requires : tie.Need-type-lengths-requires
 type-lengths-requires c κs = search needs
 
+counting-requires : tie.Need-counting-requires
+counting-requires c κs = search needs
+
 returns : tie.Need-returns
 returns c =
-    check-stops _ _ _ _ (at-no (tables-begin _ _ _) (c .before .before .type-lengths .ensures) (c .if1 .taken)) (c .if1 .taken)
+    let t = c .before in
+    c .counting .ensures
+    ∙ check-stops _ _ _ _ (at-no (tables-begin _ _ _) (t .before .before .type-lengths .ensures) (t .if1 .taken)) (t .if1 .taken)
 
 code-lengths-requires : tie.Need-code-lengths-requires
 code-lengths-requires c κs = search needs
 
+counting-requires-2 : tie.Need-counting-requires-2
+counting-requires-2 c κs = search needs
+
 returns-2 : tie.Need-returns-2
 returns-2 c =
-    let l = left-1 (c .before .before .before) in
-    check-stops _ _ _ _ (at-no l (c .before .before .code-lengths .ensures) (c .if2 .taken)) (c .if2 .taken)
+    let t = c .before in
+    let l = left-1 (t .before .before .before) in
+    c .counting2 .ensures ∙ check-stops _ _ _ _ (at-no l (t .before .before .code-lengths .ensures) (t .if2 .taken)) (t .if2 .taken)
 
 types-requires : tie.Need-types-requires
 types-requires c κs = let l = type-lengths (past-1 c) in (l .most, l .tagged)
 
+counting-requires-3 : tie.Need-counting-requires-3
+counting-requires-3 c κs = search needs
+
 returns-3 : tie.Need-returns-3
 returns-3 c =
-    let l = left-2 (c .before .before .before) in
-    check-stops _ _ _ _ (at-no l (c .before .before .types .ensures) (c .if3 .taken)) (c .if3 .taken)
+    let t = c .before in
+    let l = left-2 (t .before .before .before) in
+    c .counting3 .ensures ∙ check-stops _ _ _ _ (at-no l (t .before .before .types .ensures) (t .if3 .taken)) (t .if3 .taken)
 
 lengths-requires : tie.Need-lengths-requires
 lengths-requires c κs = let l = code-lengths (past-2 (c .before)) in (l .most, l .long)
 
+counting-requires-4 : tie.Need-counting-requires-4
+counting-requires-4 c κs = search needs
+
 returns-4 : tie.Need-returns-4
 returns-4 c =
-    let l = left-3 (c .before .before .before .before) in
-    check-stops _ _ _ _ (at-no l (c .before .before .lengths .ensures .0) (c .if4 .taken)) (c .if4 .taken)
+    let t = c .before in
+    let l = left-3 (t .before .before .before .before) in
+    c .counting4 .ensures ∙ check-stops _ _ _ _ (at-no l (t .before .before .lengths .ensures .0) (t .if4 .taken)) (t .if4 .taken)
 
 cast-annotations : tie.Need-cast-annotations
 cast-annotations c = omega (arith, type-lengths (past-1 (past-2 (past-3 c))))
@@ -91,10 +108,14 @@ cast-annotations c = omega (arith, type-lengths (past-1 (past-2 (past-3 c))))
 annotations-requires : tie.Need-annotations-requires
 annotations-requires c κs = code-lengths (past-2 (past-3 c)) .most
 
+counting-requires-5 : tie.Need-counting-requires-5
+counting-requires-5 c κs = search needs
+
 returns-5 : tie.Need-returns-5
 returns-5 c =
-    let l = left-4 (c .before .before .before) in
-    check-stops _ _ _ _ (at-last l (c .before .before .annotations .ensures)) (c .if5 .taken)
+    let t = c .before in
+    let l = left-4 (t .before .before .before) in
+    c .counting5 .ensures ∙ check-stops _ _ _ _ (at-last l (t .before .before .annotations .ensures)) (t .if5 .taken)
 
 judge-requires : tie.Need-judge-requires
 judge-requires c κs =
@@ -114,15 +135,20 @@ check-spec =
     tie.close
     (tie.spec
     type-lengths-requires
+    counting-requires
     returns
     code-lengths-requires
+    counting-requires-2
     returns-2
     types-requires
+    counting-requires-3
     returns-3
     lengths-requires
+    counting-requires-4
     returns-4
     cast-annotations
     annotations-requires
+    counting-requires-5
     returns-5
     judge-requires
     returns-6)

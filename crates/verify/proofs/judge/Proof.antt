@@ -1,31 +1,28 @@
 -- `verify::judge` meets its contract. The invariant: the blocks from b on come to what all come to.
-use mathlib.Core.Path.{_≡_, _∙_}
+use mathlib.Core.Path.{_≡_, ap, _∙_}
 use mathlib.Core.List.{List}
-use Prim.Native.Nat.{ℕ, _+_, _-_, _≤_}
+use Prim.Native.Nat.{ℕ, _+_, _-_, _*_, _≤_}
 use native.Mathlib.Omega.{arith}
 use denote.Ref.{now}
 use lib.ListN.{length, getD, take, drop}
-use Rattle.table.proofs.Laws.{start-more}
-use Rattle.table.proofs.Questions.{no-refusal, first-on, first-no, first-end}
-use Rattle.model.specs.Question.{firstNo}
+use Rattle.table.proofs.Laws.{start-more, tables-size}
+use Rattle.model.specs.declared.Verdict.{Verdict}
 use Rattle.model.specs.Table.{codeOf, tablesOf, routineOf, rows, headOf, startOf}
-use Rattle.model.specs.Check.{blockAsk, judge}
+use Rattle.model.specs.Cost.{blockAsked, counting}
+use Rattle.model.proofs.Cost.{block-bound}
 use Rattle.instruction.specs.Rows.{opcodeRows}
 use Rattle.verify.specs.Blocks.{BlockAt}
-use Rattle.verify.proofs.Blocks.{judge-begins, Tabled, tabled, block-at, block-long}
+use Rattle.verify.proofs.Blocks.{BlocksLeft, judge-begins, judge-on, judge-stops, judge-ends, Tabled, tabled, block-at, block-long}
 use borrow.Author.Needs.{needs}
 use Rattle.verify.proofs.judge.Statement.{statement}
 use Rattle.verify.proofs.judge.Tie as tie
 
 abbrev Inv-loop : tie.InvT-loop
-Inv-loop types tags blocks code starts table count b₀ b =
-    (judge (tablesOf types tags) (routineOf (codeOf blocks code))
-    ≡ firstNo (rows blocks - b) b (blockAsk (tablesOf types tags) (routineOf (codeOf blocks code))))
-    × (b ≤ rows blocks)
-    × (table ≡ opcodeRows)
+Inv-loop types tags blocks code starts table count asked₀ b₀ asked b =
+    BlocksLeft (tablesOf types tags) (routineOf (codeOf blocks code)) (rows blocks) asked b × (table ≡ opcodeRows)
 
 abbrev μ-loop : tie.MeasureT-loop
-μ-loop types tags blocks code starts table count b₀ b = rows blocks - b
+μ-loop types tags blocks code starts table count asked₀ b₀ asked b = rows blocks - b
 
 -- ---- places, and what is known of the tables and of the block
 
@@ -84,13 +81,25 @@ here : (c : tie.In-loop Inv-loop μ-loop)
     → BlockAt (routineOf (codeOf (blocks c) (code c))) (block c) (first c) (take (end c - first c) (drop (first c) (code c)))
 here c = let p = placed c in block-at (blocks c) (code c) (block c) (first c) (end c) (p .from) (p .to) (p .inside-code)
 
+-- a block puts at most 16 fit questions for each of its 32 instructions
+few : (c : tie.In-loop Inv-loop μ-loop) → let s = start (c .before) .args in
+    blockAsked (tablesOf (now (s .types)) (now (s .tags))) (routineOf (codeOf (blocks c) (code c))) (block c) ≤ 512
+few c =
+    let s = start (c .before) .args in
+    let p = placed c in
+    let small : (t : ℕ) → tablesOf (now (s .types)) (now (s .tags)) .size t ≤ 8 =
+    λ t. rw (tables-size (now (s .types)) (now (s .tags)) t) (passed c .sizes .small t) in
+    let bound = block-bound (tablesOf (now (s .types)) (now (s .tags))) (routineOf (codeOf (blocks c) (code c))) small (block c) in
+    let long = block-long (blocks c) (code c) (block c) (first c) (end c) (p .from) (p .to) (p .inside-code) in
+    omega (arith, p, here c .long)
+
 -- ---- the needs
 
 opcode-rows-requires : tie.Need-opcode-rows-requires Inv-loop μ-loop
 opcode-rows-requires c κs = tt
 
 loop-holds : tie.Need-loop-holds Inv-loop μ-loop
-loop-holds c = (judge-begins _ _, omega arith, c .opcode-rows .ensures)
+loop-holds c = (judge-begins _ _, c .opcode-rows .ensures)
 
 mul-first : tie.Need-mul-first Inv-loop μ-loop
 mul-first c = omega (arith, passed c .most)
@@ -131,13 +140,14 @@ block-requires c κs =
     let p = placed i in
     let t = passed i in
     let l = block-long (blocks i) (code i) (block i) (first i) (end i) (p .from) (p .to) (p .inside-code) in
-    (i .before .loop .inv .2, t .sizes, omega arith, t .most, omega (arith, p), omega (arith, p), omega (arith, p))
+    let v = i .before .loop .inv in
+    (v .1, t .sizes, omega arith, t .most, omega (arith, p), omega (arith, p), omega (arith, p), omega (arith, v .0, t .most))
 
 returns : tie.Need-returns Inv-loop μ-loop
 returns c =
     let k = c .before .before in
     let l = called k .before .loop in
-    first-no _ _ (l .b) _ (l .inv .0) (omega arith) _ (k .block .ensures _ (here (called k))) (c .if1 .taken)
+    judge-stops (l .inv .0) (omega arith) _ (k .block .ensures _ (here (called k))) (c .if1 .taken)
 
 add-b : tie.Need-add-b Inv-loop μ-loop
 add-b c = omega (arith, passed (called (c .before .before)) .most)
@@ -149,13 +159,19 @@ loop-again : tie.Need-loop-again Inv-loop μ-loop
 loop-again c =
     let k = c .before .before in
     let l = called k .before .loop in
-    (first-on _ _ (l .b) _ (l .inv .0) (omega arith) (no-refusal _ _ (k .block .ensures _ (here (called k))) (c .if1 .left)), omega arith, l .inv .2)
+    (judge-on (l .inv .0) (omega arith) _ (k .block .ensures _ (here (called k))) (c .if1 .left) (few (called k)), l .inv .1)
 
 passed-requires : tie.Need-passed-requires Inv-loop μ-loop
 passed-requires c κs = search needs
 
+counting-requires : tie.Need-counting-requires Inv-loop μ-loop
+counting-requires c κs = search needs
+
 returns-2 : tie.Need-returns-2 Inv-loop μ-loop
-returns-2 c = let l = c .before .before .loop in c .passed .ensures ∙ first-end _ _ (l .b) _ (l .inv .0) (omega arith)
+returns-2 c =
+    let p = c .before in
+    let l = p .before .before .loop in
+    c .counting .ensures ∙ ap (λ (v : Verdict). counting v (l .asked)) (p .passed .ensures) ∙ judge-ends (l .inv .0) (omega arith)
 
 pub judge-spec : {M : Type 1} → statement M
 judge-spec =
@@ -182,4 +198,5 @@ judge-spec =
     loop-less
     loop-again
     passed-requires
+    counting-requires
     returns-2)

@@ -1,0 +1,315 @@
+-- The fit questions that a check puts are at most 16 for each instruction examined, and how many instructions are examined.
+use mathlib.Core.Path.{_≡_, refl, sym, ap, _∙_}
+use mathlib.Core.Bool.{Bool, true, false, not}
+use mathlib.Core.List.{List}
+use Prim.Native.Nat.{ℕ, zero, suc, _+_, _*_, _≤_, _<_}
+use native.Mathlib.Omega.{arith}
+use native.Mathlib.Nat.{zero-add}
+use lib.ListN.{length}
+use borrow.Author.Tests.{eqb-true}
+use Rattle.model.specs.declared.Reference.{Reference}
+use Rattle.model.specs.declared.Reference.the-variants.{To, Nothing}
+use Rattle.model.specs.Question.{Question, Refusal, Outcome, ok, refused, provided, ask, then, firstNo, verdictOf}
+use Rattle.model.specs.Table.{Tables, tablesOf, Code, Routine, routineOf, startOf, headOf, lastAt, rows, blocksAsk, lengthsAsk, tablesAsk}
+use Rattle.model.specs.Machine.{Plain, constant, copy, add, subtract, multiply, divide, move, load, store, End, halt, jump, ifEqual, ifLess}
+use Rattle.model.specs.Machine.{Instruction, plain, end, malformed, instructionAt, targetsExist, formAsk, Access}
+use Rattle.model.specs.Reading.{Reading, entry, isOpen, taken}
+use Rattle.model.specs.Check.{withReference, referenceIn, onRecord, readPlain, edgeMeets, readEdges, noAt, readEnd, readInstruction, readAt, readOn}
+use Rattle.model.specs.Check.{blockAsk, judge, checkAsk, check}
+use Rattle.model.specs.Cost.{past, plainAsked, edgesAsked, instructionAsked, askedOn, blockAsked, askedFrom, askedOf, checkAnswer}
+use Rattle.model.specs.Cost.{examinedOn, examinedFrom, examinedOf, Cost, Costs}
+use Rattle.model.proofs.Logic.{ask-ok, then-ok, ok-then, passed-then, firstNo-ok, verdict-ok, ok-verdict, not-ok, refused-same}
+use Rattle.model.proofs.TableLaws.{sizes-eight}
+use Rattle.model.proofs.Exactly.{passed-lengths, passed-types}
+
+-- ---- at most 16 for each
+
+past-bound : {A : Type 0} (o : Outcome A) (f g : A → ℕ) → ((a : A) → f a ≤ 16 * g a) → past o f ≤ 16 * past o g
+unfolding past
+past-bound (ok a) f g h = h a
+past-bound (refused r) f g h = omega arith
+
+past-most : {A : Type 0} (o : Outcome A) (k : A → ℕ) (n : ℕ) → ((a : A) → k a ≤ n) → past o k ≤ n
+unfolding past
+past-most (ok a) k n h = h a
+past-most (refused r) k n h = omega arith
+
+provided-bound : (b : Bool) (k : Unit {0} → ℕ) (n : ℕ) → k tt ≤ n → provided b 0 k ≤ n
+unfolding provided
+provided-bound true k n h = h
+provided-bound false k n h = omega arith
+
+reference-bound : (o : Reference) (k : ℕ → ℕ) (n : ℕ) → ((t : ℕ) → k t ≤ n) → withReference o 0 k ≤ n
+unfolding withReference
+reference-bound (To t) k n h = h t
+reference-bound Nothing k n h = omega arith
+
+module _ (𝒯 : Tables) (small : (t : ℕ) → 𝒯 .size t ≤ 8) where
+  plain-bound : (x : Plain) (st : Reading) → plainAsked 𝒯 x st ≤ 8
+  unfolding plainAsked onRecord
+  plain-bound (constant a c) st = omega arith
+  plain-bound (copy a b) st = omega arith
+  plain-bound (add a b c) st = omega arith
+  plain-bound (subtract a b c) st = omega arith
+  plain-bound (multiply a b c) st = omega arith
+  plain-bound (divide a b c) st = omega arith
+  plain-bound (move a b c) st = omega arith
+  plain-bound (load a b c) st = omega arith
+  plain-bound (store a b c) st =
+      reference-bound (referenceIn 𝒯 st b) _ 8 (λ t. provided-bound _ _ 8 (provided-bound _ _ 8 (provided-bound _ _ 8 (small t))))
+
+module _ (𝒯 : Tables) (P : Routine) where
+  two-edges : (b : Bool) → 8 + provided b 0 (λ _. 8) ≤ 16
+  two-edges b = let h = provided-bound b (λ _. 8) 8 (omega arith) in omega arith
+
+  edges-bound : (e : End) (st : Reading) → edgesAsked 𝒯 P e st ≤ 16
+  unfolding edgesAsked
+  edges-bound halt st = omega arith
+  edges-bound (jump t) st = omega arith
+  edges-bound (ifEqual x k t) st = two-edges (edgeMeets 𝒯 P st (taken (ifEqual x k t) st) t)
+  edges-bound (ifLess x y t) st = two-edges (edgeMeets 𝒯 P st (taken (ifLess x y t) st) t)
+
+  -- the last instruction of a block puts at most 16, of two edges
+  pub last-bound : (b : ℕ) (x : Instruction) (st : Reading) → instructionAsked 𝒯 P b true x st ≤ 16
+  unfolding instructionAsked formAsk provided
+  last-bound b malformed st = omega arith
+  last-bound b (plain x) st = omega arith
+  last-bound b (end e) st =
+      provided-bound (targetsExist (P .count) b e) (λ _. provided (not (isOpen st)) 0 λ _. edgesAsked 𝒯 P e st) 16
+      (provided-bound (not (isOpen st)) (λ _. edgesAsked 𝒯 P e st) 16 (edges-bound e st))
+
+module _ (𝒯 : Tables) (P : Routine) (small : (t : ℕ) → 𝒯 .size t ≤ 8) where
+  -- any other at most 8, of a store
+  pub inside-bound : (b : ℕ) (x : Instruction) (st : Reading) → instructionAsked 𝒯 P b false x st ≤ 8
+  unfolding instructionAsked formAsk provided
+  inside-bound b malformed st = omega arith
+  inside-bound b (plain x) st = plain-bound 𝒯 small x st
+  inside-bound b (end e) st = omega arith
+
+  instruction-bound : (b : ℕ) (last : Bool) (x : Instruction) (st : Reading) → instructionAsked 𝒯 P b last x st ≤ 16
+  instruction-bound b true x st = last-bound 𝒯 P b x st
+  instruction-bound b false x st = let h = inside-bound b x st in omega arith
+
+  on-bound : (b n j : ℕ) (st : Reading) → askedOn 𝒯 P b n j st ≤ 16 * examinedOn 𝒯 P b n j st
+  unfolding askedOn examinedOn
+  on-bound b zero j st = omega arith
+  on-bound b (suc n) j st =
+      let one = instruction-bound b (lastAt P b j) (instructionAt P b j) st in
+      let rest = past-bound (readAt 𝒯 P b j st) _ _ (λ st'. on-bound b n (suc j) st') in
+      omega arith
+
+  from-bound : (n b : ℕ) → askedFrom 𝒯 P n b ≤ 16 * examinedFrom 𝒯 P n b
+  unfolding askedFrom blockAsked examinedFrom
+  from-bound zero b = omega arith
+  from-bound (suc n) b =
+      let one = on-bound b (P .long b) 0 (entry (P .annotation b)) in
+      let rest = past-bound (blockAsk 𝒯 P b) _ _ (λ _. from-bound n (suc b)) in
+      omega arith
+
+  examined-few : (b n j : ℕ) (st : Reading) → examinedOn 𝒯 P b n j st ≤ n
+  unfolding examinedOn
+  examined-few b zero j st = omega arith
+  examined-few b (suc n) j st = let h = past-most (readAt 𝒯 P b j st) _ n (λ st'. examined-few b n (suc j) st') in omega arith
+
+  -- a block puts at most 16 for each of its instructions
+  pub block-bound : (b : ℕ) → blockAsked 𝒯 P b ≤ 16 * P .long b
+  unfolding blockAsked
+  block-bound b =
+      let a = on-bound b (P .long b) 0 (entry (P .annotation b)) in
+      let e = examined-few b (P .long b) 0 (entry (P .annotation b)) in
+      omega arith
+
+-- ---- an accepted routine is examined whole
+
+pub past-ok : {A : Type 0} (o : Outcome A) (k : A → ℕ) (a : A) → o ≡ ok a → past o k ≡ k a
+unfolding past
+past-ok o k a e = rw e
+
+pub past-no : {A : Type 0} (o : Outcome A) (k : A → ℕ) (r : Refusal) → o ≡ refused r → past o k ≡ 0
+unfolding past
+past-no o k r e = rw e
+
+module _ (𝒯 : Tables) (P : Routine) where
+  whole-block : (b n j : ℕ) (st : Reading) → readOn 𝒯 P b n j st ≡ ok tt → examinedOn 𝒯 P b n j st ≡ n
+  unfolding readOn examinedOn
+  whole-block b zero j st q = refl
+  whole-block b (suc n) j st q =
+      let (st', p, r) = then-ok _ _ q in
+      ap suc (past-ok (readAt 𝒯 P b j st) _ st' p ∙ whole-block b n (suc j) st' r)
+
+  -- ---- a no in code is at the last instruction examined
+
+  -- each no of some questions is at code index i
+  abbrev NoAt : {A : Type 0} → ℕ → Outcome A → Type 0
+  NoAt i o = (r : Refusal) → o ≡ refused r → r .second ≡ i
+
+  module _ (b j : ℕ) where
+    abbrev index : ℕ
+    index = P .start b + j
+
+    ok-at : {A : Type 0} (a : A) → NoAt index (ok a)
+    ok-at a r e = absurd (not-ok (sym e))
+
+    no-at : {A : Type 0} (q : Question) → NoAt {A = A} index (refused (noAt 𝒯 P b j q))
+    no-at {A = A} q r e = let z : noAt 𝒯 P b j q ≡ r = refused-same {A = A} e in rw (← z) refl
+
+    ask-at : {A : Type 0} (c : Bool) (q : Question) (k : Unit {0} → Outcome A) → NoAt index (k tt) → NoAt index (ask c (noAt 𝒯 P b j q) k)
+    unfolding provided
+    ask-at true q k h = h
+    ask-at false q k h = no-at q
+
+    reference-at : {A : Type 0} (o : Reference) (q : Question) (k : ℕ → Outcome A) → ((t : ℕ) → NoAt index (k t))
+        → NoAt index (withReference o (refused (noAt 𝒯 P b j q)) k)
+    unfolding withReference
+    reference-at (To t) q k h = h t
+    reference-at Nothing q k h = no-at q
+
+    record-at : (x : Access) (st : Reading) (r c : ℕ) (k : ℕ → Reading) → NoAt index (onRecord 𝒯 (λ q. refused (noAt 𝒯 P b j q)) x st r c (λ t. ok (k t)))
+    unfolding onRecord
+    record-at x st r c k = reference-at _ _ _ (λ t. ask-at _ _ _ (ask-at _ _ _ (ask-at _ _ _ (ok-at (k t)))))
+
+    plain-at : (x : Plain) (st : Reading) → NoAt index (readPlain 𝒯 (noAt 𝒯 P b j) (suc j) x st)
+    unfolding readPlain
+    plain-at (constant a c) st = ok-at _
+    plain-at (copy a c) st = ok-at _
+    plain-at (add a c d) st = ok-at _
+    plain-at (subtract a c d) st = ok-at _
+    plain-at (multiply a c d) st = ok-at _
+    plain-at (divide a c d) st = ok-at _
+    plain-at (move a c d) st = ok-at _
+    plain-at (load a c d) st = record-at _ st c d _
+    plain-at (store a c d) st = record-at _ st c d _
+
+    edges-at : (n : ℕ) (e : End) (st : Reading) → NoAt index (readEdges 𝒯 P (noAt 𝒯 P b j) n e st)
+    unfolding readEdges
+    edges-at n halt st = ok-at _
+    edges-at n (jump t) st = ask-at _ _ _ (ok-at _)
+    edges-at n (ifEqual x k t) st = ask-at _ _ _ (ask-at _ _ _ (ok-at _))
+    edges-at n (ifLess x y t) st = ask-at _ _ _ (ask-at _ _ _ (ok-at _))
+
+    then-at : (o : Outcome (Unit {0})) (st : Reading) → NoAt index o → NoAt index (then o (λ _. ok st))
+    unfolding then
+    then-at (ok u) st h = ok-at st
+    then-at (refused x) st h = λ r e. h r (ap {B = Outcome (Unit {0})} refused (refused-same {A = Reading} e))
+
+    end-at : (e : End) (st : Reading) → NoAt index (readEnd 𝒯 P (noAt 𝒯 P b j) b e st)
+    unfolding readEnd
+    end-at e st = ask-at _ _ _ (then-at _ st (edges-at (suc b) e st))
+
+    instruction-at : (last : Bool) (x : Instruction) (st : Reading) → NoAt index (readInstruction 𝒯 P (noAt 𝒯 P b j) b (suc j) last x st)
+    unfolding readInstruction formAsk
+    instruction-at last malformed st = no-at _
+    instruction-at last (plain x) st = ask-at _ _ _ (plain-at x st)
+    instruction-at last (end e) st = ask-at _ _ _ (ask-at _ _ _ (end-at e st))
+
+  up-to-the-no : (b n j : ℕ) (st : Reading) (r : Refusal) → readOn 𝒯 P b n j st ≡ refused r
+      → P .start b + (j + examinedOn 𝒯 P b n j st) ≡ suc (r .second)
+  unfolding readOn examinedOn then past
+  up-to-the-no b zero j st r q = absurd (not-ok (sym q))
+  up-to-the-no b (suc n) j st r q = go (readAt 𝒯 P b j st) refl q (λ st' h. up-to-the-no b n (suc j) st' r h)
+    where
+      go : (o : Outcome Reading) → readAt 𝒯 P b j st ≡ o → then o (λ st'. readOn 𝒯 P b n (suc j) st') ≡ refused r
+          → ((st' : Reading) → readOn 𝒯 P b n (suc j) st' ≡ refused r → P .start b + (suc j + examinedOn 𝒯 P b n (suc j) st') ≡ suc (r .second))
+          → P .start b + (j + suc (past o (λ st'. examinedOn 𝒯 P b n (suc j) st'))) ≡ suc (r .second)
+      go (ok st') h q rest = let z = rest st' q in omega arith
+      go (refused x) h q rest =
+          let s : x ≡ r = refused-same {A = Unit {0}} q in
+          let i : r .second ≡ P .start b + j = rw (← s) (instruction-at b j (lastAt P b j) (instructionAt P b j) st x h) in
+          omega arith
+
+  -- ---- the blocks before
+
+  module _ (next : (b : ℕ) → P .start (suc b) ≡ P .start b + P .long b) where
+    all-blocks : (n b : ℕ) → firstNo n b (blockAsk 𝒯 P) ≡ ok tt → P .start b + examinedFrom 𝒯 P n b ≡ P .start (b + n)
+    unfolding firstNo examinedFrom blockAsk
+    all-blocks zero b q = let z : b + 0 ≡ b = omega arith in rw z (omega arith)
+    all-blocks (suc n) b q =
+        let (p, r) = passed-then _ _ q in
+        let one = whole-block b (P .long b) 0 (entry (P .annotation b)) p in
+        let rest = past-ok (readOn 𝒯 P b (P .long b) 0 (entry (P .annotation b))) (λ _. examinedFrom 𝒯 P n (suc b)) tt p in
+        let more = all-blocks n (suc b) r in
+        let z : b + suc n ≡ suc b + n = omega arith in
+        let s = next b in
+        rw (z, one, rest) (omega arith)
+
+    blocks-until : (n b : ℕ) (r : Refusal) → firstNo n b (blockAsk 𝒯 P) ≡ refused r → P .start b + examinedFrom 𝒯 P n b ≡ suc (r .second)
+    unfolding firstNo examinedFrom blockAsk then past
+    blocks-until zero b r q = absurd (not-ok (sym q))
+    blocks-until (suc n) b r q = go (readOn 𝒯 P b (P .long b) 0 (entry (P .annotation b))) refl q (λ h. blocks-until n (suc b) r h)
+      where
+        go : (o : Outcome (Unit {0})) → readOn 𝒯 P b (P .long b) 0 (entry (P .annotation b)) ≡ o → then o (λ _. firstNo n (suc b) (blockAsk 𝒯 P)) ≡ refused r
+            → (firstNo n (suc b) (blockAsk 𝒯 P) ≡ refused r → P .start (suc b) + examinedFrom 𝒯 P n (suc b) ≡ suc (r .second))
+            → P .start b + (examinedOn 𝒯 P b (P .long b) 0 (entry (P .annotation b)) + past o (λ _. examinedFrom 𝒯 P n (suc b))) ≡ suc (r .second)
+        go (ok u) h q rest =
+            let one = whole-block b (P .long b) 0 (entry (P .annotation b)) h in
+            let more = rest q in
+            let s = next b in
+            rw one (omega arith)
+        go (refused x) h q rest =
+            let z : x ≡ r = refused-same {A = Unit {0}} q in
+            let one = up-to-the-no b (P .long b) 0 (entry (P .annotation b)) x h in
+            rw (← z) (omega arith)
+
+-- where no block is left over, the code ends where the last block does
+ends-with-code : (blocks : List ℕ) (total n b i : ℕ) → i ≡ startOf blocks b → blocksAsk blocks total n b i ≡ ok tt → startOf blocks (b + n) ≡ total
+unfolding blocksAsk startOf
+ends-with-code blocks total zero b i e q = let z : b + 0 ≡ b = omega arith in rw (z, ← e) (eqb-true i total (ask-ok _ _ _ q .0))
+ends-with-code blocks total (suc n) b i e q =
+    let (h, r) = ask-ok _ _ _ q in
+    let z : b + suc n ≡ suc b + n = omega arith in
+    rw z (ends-with-code blocks total n (suc b) (i + headOf blocks b) (ap (λ (y : ℕ). y + headOf blocks b) e) r)
+
+-- ---- the public call
+
+module _ (types tags : List ℕ) (C : Code) where
+  abbrev 𝒯′ : Tables
+  𝒯′ = tablesOf types tags
+
+  abbrev P′ : Routine
+  P′ = routineOf C
+
+  next : (b : ℕ) → P′ .start (suc b) ≡ P′ .start b + P′ .long b
+  unfolding routineOf startOf
+  next b = refl
+
+  bounded : askedOf types tags C ≤ 16 * examinedOf types tags C
+  unfolding askedOf examinedOf past
+  bounded = go (tablesAsk types tags C) refl
+    where
+      go : (o : Outcome (Unit {0})) → tablesAsk types tags C ≡ o
+          → past o (λ _. askedFrom 𝒯′ P′ (P′ .count) 0) ≤ 16 * past o (λ _. examinedFrom 𝒯′ P′ (P′ .count) 0)
+      go (ok u) e =
+          let (l, t) = passed-types types tags C e in
+          from-bound 𝒯′ P′ (sizes-eight types tags l t) (P′ .count) 0
+      go (refused r) e = omega arith
+
+  tables-passed : tablesAsk types tags C ≡ ok tt → examinedOf types tags C ≡ P′ .start 0 + examinedFrom 𝒯′ P′ (P′ .count) 0
+  unfolding examinedOf routineOf startOf
+  tables-passed e = past-ok _ _ tt e ∙ sym (zero-add _)
+
+  all-examined : check types tags C .number ≡ 0 → examinedOf types tags C ≡ length (C .code)
+  unfolding check checkAsk judge lengthsAsk routineOf startOf
+  all-examined e =
+      let (t, q) = passed-then _ _ (verdict-ok _ e) in
+      let ends = ends-with-code (C .blocks) (length (C .code)) (rows (C .blocks)) 0 0 refl (passed-lengths types tags C t) in
+      tables-passed t ∙ all-blocks 𝒯′ P′ next (P′ .count) 0 q ∙ ends
+
+  examined-to-no : tablesAsk types tags C ≡ ok tt → (check types tags C .number ≡ 0 → ⊥) → examinedOf types tags C ≡ suc (check types tags C .second)
+  unfolding check checkAsk judge
+  examined-to-no t n = go (judge 𝒯′ P′) refl
+    where
+      whole : (o : Outcome (Unit {0})) → judge 𝒯′ P′ ≡ o → checkAsk types tags C ≡ o
+      whole o e = ok-then _ _ tt t ∙ e
+
+      go : (o : Outcome (Unit {0})) → judge 𝒯′ P′ ≡ o → examinedOf types tags C ≡ suc (verdictOf (checkAsk types tags C) .second)
+      go (ok u) e = absurd (n (ok-verdict _ (whole (ok u) e)))
+      go (refused r) e = tables-passed t ∙ blocks-until 𝒯′ P′ next (P′ .count) 0 r e ∙ rw (whole (refused r) e) (unfold verdictOf in refl)
+
+pub costs : Costs
+costs types tags C =
+    record {
+      bound = unfold checkAnswer in (bounded types tags C);
+      accepted = all-examined types tags C;
+      in-code = examined-to-no types tags C;
+      by-a-table = λ r e. unfold examinedOf in (past-no _ _ r e);
+    }
