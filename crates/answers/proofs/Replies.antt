@@ -23,7 +23,8 @@ use Rattle.telling.specs.Told.{Told}
 use Rattle.answers.specs.declared.Given.{Given}
 use Rattle.answers.specs.declared.Style.{Style}
 use Rattle.answers.specs.declared.Reply.{Reply}
-use Rattle.answers.specs.Answers.{Answer, costText, wordsOf, remarkText, lineNumber, outputLine, lineText, refusalRow, refused, haltedRow, unread, requestAnswer}
+use Rattle.answers.specs.Answers.{Answer, costText, wordsOf, remarkText, lineNumber, outputLine, lineText}
+use Rattle.answers.specs.Answers.{refusalRow, refused, haltedRow, unread, requestAnswer}
 use Rattle.answers.specs.Gives.{Gives, speaks, answerAt, wordsIn, Remarked, Ended, Replied}
 
 -- ---- the number of a line

@@ -2,7 +2,7 @@
 use mathlib.Core.Path.{_≡_, refl, sym, ap, _∙_}
 use mathlib.Core.Bool.{Bool, true, false, not}
 use mathlib.Core.List.{List}
-use Prim.Native.Nat.{ℕ, zero, suc, _+_, _*_, _≤_, _<_}
+use Prim.Native.Nat.{ℕ, zero, suc, _+_, _*_, _≤_}
 use native.Mathlib.Omega.{arith}
 use native.Mathlib.Nat.{zero-add}
 use lib.ListN.{length}
@@ -17,8 +17,8 @@ use Rattle.model.specs.Reading.{Reading, entry, isOpen, taken}
 use Rattle.model.specs.Check.{withReference, referenceIn, onRecord, readPlain, edgeMeets, readEdges, noAt, readEnd, readInstruction, readAt, readOn}
 use Rattle.model.specs.Check.{blockAsk, judge, checkAsk, check}
 use Rattle.model.specs.Cost.{past, plainAsked, edgesAsked, instructionAsked, askedOn, blockAsked, askedFrom, askedOf, checkAnswer}
-use Rattle.model.specs.Cost.{examinedOn, examinedFrom, examinedOf, Cost, Costs}
-use Rattle.model.proofs.Logic.{ask-ok, then-ok, ok-then, passed-then, firstNo-ok, verdict-ok, ok-verdict, not-ok, refused-same}
+use Rattle.model.specs.Cost.{examinedOn, examinedFrom, examinedOf, Costs}
+use Rattle.model.proofs.Logic.{ask-ok, then-ok, ok-then, passed-then, verdict-ok, ok-verdict, not-ok, refused-same}
 use Rattle.model.proofs.TableLaws.{sizes-eight}
 use Rattle.model.proofs.Exactly.{passed-lengths, passed-types}
 
@@ -34,12 +34,12 @@ unfolding past
 past-most (ok a) k n h = h a
 past-most (refused r) k n h = omega arith
 
-provided-bound : (b : Bool) (k : Unit {0} → ℕ) (n : ℕ) → k tt ≤ n → provided b 0 k ≤ n
+pub provided-bound : (b : Bool) (k : Unit {0} → ℕ) (n : ℕ) → k tt ≤ n → provided b 0 k ≤ n
 unfolding provided
 provided-bound true k n h = h
 provided-bound false k n h = omega arith
 
-reference-bound : (o : Reference) (k : ℕ → ℕ) (n : ℕ) → ((t : ℕ) → k t ≤ n) → withReference o 0 k ≤ n
+pub reference-bound : (o : Reference) (k : ℕ → ℕ) (n : ℕ) → ((t : ℕ) → k t ≤ n) → withReference o 0 k ≤ n
 unfolding withReference
 reference-bound (To t) k n h = h t
 reference-bound Nothing k n h = omega arith

@@ -37,6 +37,7 @@ pub mod ReadingStates
 pub mod ReadingDecides
 pub mod ReadingEdges
 pub mod ReadingBlocks
+pub mod CostRules
 pub mod ReadingLaws
 pub mod ReadingExample
 pub mod Chains

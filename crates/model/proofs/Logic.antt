@@ -304,7 +304,7 @@ pub ok-verdict : (o : Outcome (Unit {0})) → o ≡ ok tt → verdictOf o .numbe
 unfolding verdictOf
 ok-verdict o e = rw e
 
-number-same : {q q' : Question} → numberOf q ≡ numberOf q' → q ≡ q'
+pub number-same : {q q' : Question} → numberOf q ≡ numberOf q' → q ≡ q'
 number-same {q = q} {q' = q'} e = sym (listed q) ∙ ap questionOf e ∙ listed q'
 
 -- a verdict is that of one refusal alone

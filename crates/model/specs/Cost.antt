@@ -1,18 +1,20 @@
 -- 02, card 9: 'What a check costs'. The fit questions that a check puts, the answer of the call with their count, and its bound.
--- Cost is proved in proofs/Cost.antt, CostCases in proofs/Answers.antt.
+-- PutByRules is proved in proofs/CostRules.antt, Costs in proofs/Cost.antt, CostCases in proofs/Answers.antt.
 use mathlib.Core.Path.{_≡_}
+use mathlib.Core.Logic.{_↔_}
 use mathlib.Core.Bool.{Bool, not}
 use mathlib.Core.List.{List, [], _∷_, _++_}
-use Prim.Native.Nat.{ℕ, zero, suc, _+_, _*_, _≤_}
+use Prim.Native.Nat.{ℕ, zero, suc, _+_, _*_, _≤_, _<_}
 use lib.ListN.{length}
 use Rattle.model.specs.declared.Verdict.{Verdict}
 use Rattle.model.specs.declared.CheckAnswer.{CheckAnswer}
-use Rattle.model.specs.Question.{Refusal, Outcome, ok, refused, provided}
+use Rattle.model.specs.Question.{q14, q15, Refusal, Outcome, ok, refused, provided}
 use Rattle.model.specs.Table.{Tables, tablesOf, Code, codeOf, Routine, routineOf, lastAt, tablesAsk}
 use Rattle.model.specs.Machine.{Plain, constant, copy, add, subtract, multiply, divide, move, load, store, End, halt, jump, ifEqual, ifLess}
-use Rattle.model.specs.Machine.{Instruction, instructionAt, formAsk, toStore}
+use Rattle.model.specs.Machine.{Instruction, plain, end, instructionAt, formAsk, toStore}
+use Rattle.model.specs.ReadingRules.{ObeysAt, TypeGiven, DisobeysAt}
 use Rattle.model.specs.Reading.{Reading, entry, isOpen, taken}
-use Rattle.model.specs.Check.{onRecord, edgeMeets, readAt, blockAsk, check}
+use Rattle.model.specs.Check.{onRecord, edgeMeets, readAt, blockAsk, readingAt, check}
 use Rattle.model.specs.Cases.{typeWord, anyWord, refWord, taggedWord, haltWord, loadWord, storeWord, moveWord, jumpWord, ifEqualWord, ifLessWord, row}
 use Rattle.model.specs.Cases.{verdict, plotTypes, plotTags, stageBlocks, stageCode, storeBlock, belowBlocks, moveBlocks}
 use Rattle.model.specs.Locks.{lockedPlotTypes}
@@ -51,10 +53,13 @@ module _ (𝒯 : Tables) (P : Routine) where
       formAsk (λ _. 0) (P .count) b last
       (λ y. plainAsked 𝒯 y st) (λ e. provided (not (isOpen st)) 0 λ _. edgesAsked e st) x
 
+  abbrev pub askedAt : ℕ → ℕ → Reading → ℕ
+  askedAt b j st = instructionAsked b (lastAt P b j) (instructionAt P b j) st
+
   -- n instructions of block b from offset j on, each after those before it had no no
   unfoldable pub askedOn : ℕ → ℕ → ℕ → Reading → ℕ
   askedOn b zero j st = 0
-  askedOn b (suc n) j st = instructionAsked b (lastAt P b j) (instructionAt P b j) st + past (readAt 𝒯 P b j st) (λ st'. askedOn b n (suc j) st')
+  askedOn b (suc n) j st = askedAt b j st + past (readAt 𝒯 P b j st) (λ st'. askedOn b n (suc j) st')
 
   unfoldable pub blockAsked : ℕ → ℕ
   blockAsked b = askedOn b (P .long b) 0 (entry (P .annotation b))
@@ -66,6 +71,27 @@ module _ (𝒯 : Tables) (P : Routine) where
 
 unfoldable pub askedOf : List ℕ → List ℕ → Code → ℕ
 askedOf types tags C = past (tablesAsk types tags C) (λ _. askedFrom (tablesOf types tags) (routineOf C) (routineOf C .count) 0)
+
+-- ---- 'that the rules put': the count of an instruction by the rules alone
+
+module _ (𝒯 : Tables) (P : Routine) where
+  -- the instruction at offset j of block b, those before it having obeyed the rules, puts so many fit questions
+  pub data Puts (b j : ℕ) : ℕ → Type 0 where
+    -- a store that passes Q12, the last that it is asked, obeys the rules
+    by-a-store : {a r c t : ℕ} → instructionAt P b j ≡ plain (store a r c) → ObeysAt 𝒯 P b j → TypeGiven 𝒯 P b j r t → Puts b j (𝒯 .size t)
+    by-a-jump : {t : ℕ} → instructionAt P b j ≡ end (jump t) → ObeysAt 𝒯 P b j → Puts b j 8
+    by-if-equal : {x k t : ℕ} → instructionAt P b j ≡ end (ifEqual x k t) → ObeysAt 𝒯 P b j → Puts b j 16
+    by-if-less : {x y t : ℕ} → instructionAt P b j ≡ end (ifLess x y t) → ObeysAt 𝒯 P b j → Puts b j 16
+    -- an edge that fails: the taken one alone is put, or both
+    taken-fails : DisobeysAt 𝒯 P b j q14 → Puts b j 8
+    untaken-fails : DisobeysAt 𝒯 P b j q15 → Puts b j 16
+
+-- where the reading comes to an instruction, it puts fit questions exactly as the rules say
+abbrev pub PutByRules : Type 0
+PutByRules =
+    (types tags : List ℕ) (C : Code) → tablesAsk types tags C ≡ ok tt → (b j n : ℕ) (st : Reading) → b < routineOf C .count → j < routineOf C .long b
+    → readingAt (tablesOf types tags) (routineOf C) b j ≡ ok st → 0 < n
+    → (askedAt (tablesOf types tags) (routineOf C) b j st ≡ n) ↔ Puts (tablesOf types tags) (routineOf C) b j n
 
 -- ---- 'The verdict gains this count'
 
