@@ -440,7 +440,8 @@ static inline uint32_t ramdulsi_code_if_less(uint32_t a, uint32_t b, uint32_t bl
  * which 14 or 15 asks about, puts eight, one for each register. They are counted whole, even where one fails. A refusal has those put up to
  * it: none where it is 1 to 6; where it is 14 or 15, the eight of the edge that fails too, and after 14 the untaken edge is not asked
  * about. The number is the same on every machine, and at most 16 times the instructions examined: all of them where the routine is
- * accepted, those up to the code index of the answer where one is refused. A loading queue can go by it: library/c/turns.c has one.
+ * accepted, those up to and with the one at the code index where an instruction is refused, none where a table is. A loading queue can go
+ * by it: library/c/turns.c has one.
  */
 uint32_t ramdulsi_check(const uint32_t *types, size_t types_words, const uint32_t *tags, size_t tags_words,
                         const uint32_t *blocks, size_t blocks_words, const uint32_t *code, size_t code_words,

@@ -26,7 +26,7 @@ use model::number;
 pub const NO_BASE: u32 = 256;
 
 // What is left of a reading beside the arrays: the number of a no, the birthplace of the last close, the base of the open record, and how
-// many fit questions the block has put.
+// many fit questions the block has put: at most 8 for each instruction before its last, so 256 at most.
 pub struct Progress {
     pub number: u32,
     pub since: u32,

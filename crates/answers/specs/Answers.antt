@@ -83,8 +83,11 @@ abbrev pub costText : Bool → ℕ → List ℕ
 costText counted asked = pick counted (codes "; fit questions: " ++ decimal asked) []
 
 -- what is added in words, over the row of the table that the answer has
+abbrev pub wordsWith : (number first second : ℕ) → Bool → ℕ → List ℕ → List ℕ
+wordsWith number first second counted asked row = answerText number first second row ++ costText counted asked
+
 abbrev pub wordsOf : Answer → List ℕ → List ℕ
-wordsOf a row = answerText (a .row) (a .first) (a .second) row ++ costText (a .counted) (a .asked)
+wordsOf a = wordsWith (a .row) (a .first) (a .second) (a .counted) (a .asked)
 
 unfoldable pub remarkText : Said → List ℕ → List ℕ
 remarkText nothing row = []

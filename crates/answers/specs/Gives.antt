@@ -11,11 +11,10 @@ use Rattle.grammar.specs.Phase.{GAP, MALFORMED}
 use Rattle.protocol.specs.Said.{Said, partsIn}
 use Rattle.output.specs.Appended.{Appended}
 use Rattle.output.specs.Digits.{printable}
-use Rattle.telling.specs.Row.{answerText}
 use Rattle.answers.specs.declared.Given.{Given}
 use Rattle.answers.specs.declared.Style.{Style}
 use Rattle.answers.specs.declared.Reply.{Reply}
-use Rattle.answers.specs.Answers.{Answer, unread, requestAnswer, costText, lineText, remarkText, refusalRow, refused}
+use Rattle.answers.specs.Answers.{Answer, unread, requestAnswer, wordsWith, lineText, remarkText, refusalRow, refused}
 
 -- no answer is longer: a run's with the memory of a whole pool
 abbrev pub longest : ℕ
@@ -42,7 +41,7 @@ answerAt l words ends longs =
 
 -- what is added in words to an answer that stands in the buffer
 abbrev pub wordsIn : Given → List ℕ → List ℕ
-wordsIn g row = answerText (g .row) (g .first) (g .second) row ++ costText (g .counted) (g .asked)
+wordsIn g = wordsWith (g .row) (g .first) (g .second) (g .counted) (g .asked)
 
 -- words after an answer, where they are asked for: a text without line ends, made of some row of the table of words
 pub record Remarked (worded : Bool) (g : Given) (before : List ℕ) (r : ℕ) (after : List ℕ) : Type 0 where

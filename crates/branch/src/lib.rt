@@ -30,13 +30,14 @@ pub struct EndAnswer {
     pub asked: u32,
 }
 
-// The fit questions that a block's end puts, one for each register on each edge, of which none is left out where an earlier one fails: of a
-// jump; of a branch whose taken edge is missed, so that the other is not put; of a branch whose taken edge is met.
-const OF_A_JUMP: u32 = 8;
+// The fit questions that a block's end puts: one for each register on each edge, of which none is left out where an earlier one fails.
+const ASKED_BY_JUMP: u32 = 8;
 
-const OF_A_MISS: u32 = 8;
+// A branch whose taken edge is missed: the other is not put.
+const ASKED_BY_MISSED_BRANCH: u32 = 8;
 
-const OF_A_BRANCH: u32 = 16;
+// A branch whose taken edge is met.
+const ASKED_BY_BRANCH: u32 = 16;
 
 // The first no of Q7 to Q9 and Q13 at the last instruction of block b; base is that of the open record.
 pub fn may_end(
@@ -240,19 +241,19 @@ fn fork(
     ) {
         return EndAnswer {
             number: TAKEN_EDGE,
-            asked: OF_A_MISS,
+            asked: ASKED_BY_MISSED_BRANCH,
         };
     }
     words[i] = t.untaken;
     if !edge(tags, registers, words, frames, constants, 0, 0, untaken) {
         return EndAnswer {
             number: UNTAKEN_EDGE,
-            asked: OF_A_BRANCH,
+            asked: ASKED_BY_BRANCH,
         };
     }
     EndAnswer {
         number: PASSED,
-        asked: OF_A_BRANCH,
+        asked: ASKED_BY_BRANCH,
     }
 }
 
@@ -289,12 +290,12 @@ pub fn edges(
         if edge(tags, registers, words, frames, constants, 0, 0, taken) {
             return EndAnswer {
                 number: PASSED,
-                asked: OF_A_JUMP,
+                asked: ASKED_BY_JUMP,
             };
         }
         return EndAnswer {
             number: TAKEN_EDGE,
-            asked: OF_A_JUMP,
+            asked: ASKED_BY_JUMP,
         };
     }
     let t = learn(registers, words, frames, constants, word);

@@ -73,7 +73,7 @@ answered =
     record {
       checks = λ types tags C v q.
           let E = demand-2 .checks types tags C in
-          rw q (unfold checkAnswer in (E .accepts, E .names, refl, costs types tags C .bound));
+          rw q (unfold checkAnswer in (E .accepts, E .names, refl, costs types tags C));
       memoryChecks = λ types tags allocations memory v left q.
           let E = demand-2 .memoryChecks types tags allocations memory in rw (q .0) (E .passes, E .names, q .1);
       entryChecks = λ types tags allocations memory C g v left q.

@@ -4,7 +4,7 @@ use mathlib.Core.Path.{_≡_}
 use mathlib.Core.Logic.{_↔_}
 use mathlib.Core.Bool.{true}
 use mathlib.Core.List.{List}
-use Prim.Native.Nat.{ℕ, _*_, _≤_, _<_}
+use Prim.Native.Nat.{ℕ, _<_}
 use lib.Dec.{eqb}
 use lib.ListN.{length}
 use Rattle.model.specs.declared.Verdict.{Verdict}
@@ -13,7 +13,7 @@ use Rattle.model.specs.declared.RunAnswer.{RunAnswer}
 use Rattle.model.specs.Question.{_or_, Question, numberOf, Refusal, refusing, FirstRefused}
 use Rattle.model.specs.Table.{Code, Routine, routineOf}
 use Rattle.model.specs.Machine.{State, indexOf, step, halts, faults, runQuestions, run, returned, Ready, ready}
-use Rattle.model.specs.Cost.{askedOf, examinedOf, verdictIn, checkAnswer}
+use Rattle.model.specs.Cost.{askedOf, verdictIn, checkAnswer, Cost}
 use Rattle.model.specs.MemoryCheck.{memoryCheck, entryCheck}
 use Rattle.model.specs.Faults.{isOpening, isFault, Through}
 use Rattle.model.specs.Exactness.{Accepts, CheckNo, MemoryPasses, MemoryNo, EntryPasses, EntryNo, Finishes}
@@ -92,7 +92,7 @@ module _ (C : Code) (memory : List ℕ) (g : Ready) (budget : ℕ) (a : RunAnswe
 pub record Answered : Type 0 where
   pub checks : (types tags : List ℕ) (C : Code) (v : CheckAnswer) → CheckGave types tags C v
       → ((v .number ≡ 0) ↔ Accepts types tags C) × ((r : Refusal) → (verdictIn v ≡ refusing r) ↔ CheckNo types tags C r)
-      × (v .asked ≡ askedOf types tags C) × (v .asked ≤ 16 * examinedOf types tags C)
+      × (v .asked ≡ askedOf types tags C) × Cost types tags C
   pub memoryChecks : (types tags allocations memory : List ℕ) (v : Verdict) (left : List ℕ) → MemoryCheckGave types tags allocations memory v left
       → ((v .number ≡ 0) ↔ MemoryPasses types tags allocations memory)
       × ((r : Refusal) → (v ≡ refusing r) ↔ MemoryNo types tags allocations memory r) × (left ≡ memory)

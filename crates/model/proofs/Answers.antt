@@ -125,7 +125,7 @@ costs-hold =
     record {
       bothEdges = (refl, refl);
       untakenFails = (refl, refl);
-      boundMet = (refl, refl);
+      boundReached = (refl, refl);
       takenFails = (refl, refl);
       jumpMet = (refl, refl);
       jumpMissed = (refl, refl);

@@ -17,8 +17,7 @@ use Rattle.model.specs.Check.{withReference, onRecord, readPlain, readEd
 use Rattle.model.specs.MemoryCheck.{whenTrue, unlessTrue, startsTest, runTest, rankTest, tagTest, meets, fieldAsk, recordsAsk, registerAsk}
 use Rattle.model.specs.MemoryCheck.{layoutAsk, memoryAsk, memoryCheck, entryAsk, entryCheck, routineAsk}
 use Rattle.model.specs.Chains.{blockApart, judgeApart, checkApart}
-use Rattle.model.specs.Cost.{past, plainAsked, edgesAsked, instructionAsked, askedOn, blockAsked, askedFrom, askedOf, checkAnswer}
-use Rattle.model.specs.Cost.{examinedOn, examinedFrom, examinedOf}
+use Rattle.model.specs.Cost.{past, plainAsked, edgesAsked, instructionAsked, sumOn, sumIn, sumFrom, sumOf, checkAnswer}
 use Rattle.model.specs.Turns.{turned, afterCall, atStart}
 
 unfoldable pub computed : Unit {0}
@@ -40,6 +39,6 @@ unfolding
     whenTrue unlessTrue startsTest runTest rankTest tagTest meets fieldAsk recordsAsk registerAsk layoutAsk memoryAsk memoryCheck
     routineAsk entryAsk entryCheck
     blockApart judgeApart checkApart
-    past plainAsked edgesAsked instructionAsked askedOn blockAsked askedFrom askedOf checkAnswer examinedOn examinedFrom examinedOf
+    past plainAsked edgesAsked instructionAsked sumOn sumIn sumFrom sumOf checkAnswer
     turned afterCall atStart
 computed = tt

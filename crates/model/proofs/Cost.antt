@@ -16,11 +16,15 @@ use Rattle.model.specs.Machine.{Instruction, plain, end, malformed, inst
 use Rattle.model.specs.Reading.{Reading, entry, isOpen, taken}
 use Rattle.model.specs.Check.{withReference, referenceIn, onRecord, readPlain, edgeMeets, readEdges, noAt, readEnd, readInstruction, readAt, readOn}
 use Rattle.model.specs.Check.{blockAsk, judge, checkAsk, check}
-use Rattle.model.specs.Cost.{past, plainAsked, edgesAsked, instructionAsked, askedOn, blockAsked, askedFrom, askedOf, checkAnswer}
-use Rattle.model.specs.Cost.{examinedOn, examinedFrom, examinedOf, Costs}
+use Rattle.model.specs.Cost.{past, plainAsked, edgesAsked, instructionAsked, askedAt, sumOn, sumIn, sumFrom, sumOf, askedOf, examinedOf}
+use Rattle.model.specs.Cost.{checkAnswer, Costs}
 use Rattle.model.proofs.Logic.{ask-ok, then-ok, ok-then, passed-then, verdict-ok, ok-verdict, not-ok, refused-same}
 use Rattle.model.proofs.TableLaws.{sizes-eight}
 use Rattle.model.proofs.Exactly.{passed-lengths, passed-types}
+
+-- each instruction once
+abbrev one : ℕ → ℕ → Reading → ℕ
+one b j st = 1
 
 -- ---- at most 16 for each
 
@@ -90,30 +94,31 @@ module _ (𝒯 : Tables) (P : Routine) (small : (t : ℕ) → 𝒯 .size t ≤ 8
   instruction-bound b true x st = last-bound 𝒯 P b x st
   instruction-bound b false x st = let h = inside-bound b x st in omega arith
 
-  on-bound : (b n j : ℕ) (st : Reading) → askedOn 𝒯 P b n j st ≤ 16 * examinedOn 𝒯 P b n j st
-  unfolding askedOn examinedOn
+  -- so many for each instruction come to so many times the instructions
+  on-bound : (b n j : ℕ) (st : Reading) → sumOn 𝒯 P (askedAt 𝒯 P) b n j st ≤ 16 * sumOn 𝒯 P one b n j st
+  unfolding sumOn
   on-bound b zero j st = omega arith
   on-bound b (suc n) j st =
-      let one = instruction-bound b (lastAt P b j) (instructionAt P b j) st in
+      let here = instruction-bound b (lastAt P b j) (instructionAt P b j) st in
       let rest = past-bound (readAt 𝒯 P b j st) _ _ (λ st'. on-bound b n (suc j) st') in
       omega arith
 
-  from-bound : (n b : ℕ) → askedFrom 𝒯 P n b ≤ 16 * examinedFrom 𝒯 P n b
-  unfolding askedFrom blockAsked examinedFrom
+  from-bound : (n b : ℕ) → sumFrom 𝒯 P (askedAt 𝒯 P) n b ≤ 16 * sumFrom 𝒯 P one n b
+  unfolding sumFrom sumIn
   from-bound zero b = omega arith
   from-bound (suc n) b =
-      let one = on-bound b (P .long b) 0 (entry (P .annotation b)) in
+      let here = on-bound b (P .long b) 0 (entry (P .annotation b)) in
       let rest = past-bound (blockAsk 𝒯 P b) _ _ (λ _. from-bound n (suc b)) in
       omega arith
 
-  examined-few : (b n j : ℕ) (st : Reading) → examinedOn 𝒯 P b n j st ≤ n
-  unfolding examinedOn
+  examined-few : (b n j : ℕ) (st : Reading) → sumOn 𝒯 P one b n j st ≤ n
+  unfolding sumOn
   examined-few b zero j st = omega arith
   examined-few b (suc n) j st = let h = past-most (readAt 𝒯 P b j st) _ n (λ st'. examined-few b n (suc j) st') in omega arith
 
   -- a block puts at most 16 for each of its instructions
-  pub block-bound : (b : ℕ) → blockAsked 𝒯 P b ≤ 16 * P .long b
-  unfolding blockAsked
+  pub block-bound : (b : ℕ) → sumIn 𝒯 P (askedAt 𝒯 P) b ≤ 16 * P .long b
+  unfolding sumIn
   block-bound b =
       let a = on-bound b (P .long b) 0 (entry (P .annotation b)) in
       let e = examined-few b (P .long b) 0 (entry (P .annotation b)) in
@@ -130,12 +135,13 @@ unfolding past
 past-no o k r e = rw e
 
 module _ (𝒯 : Tables) (P : Routine) where
-  whole-block : (b n j : ℕ) (st : Reading) → readOn 𝒯 P b n j st ≡ ok tt → examinedOn 𝒯 P b n j st ≡ n
-  unfolding readOn examinedOn
+  whole-block : (b n j : ℕ) (st : Reading) → readOn 𝒯 P b n j st ≡ ok tt → sumOn 𝒯 P one b n j st ≡ n
+  unfolding readOn sumOn
   whole-block b zero j st q = refl
   whole-block b (suc n) j st q =
       let (st', p, r) = then-ok _ _ q in
-      ap suc (past-ok (readAt 𝒯 P b j st) _ st' p ∙ whole-block b n (suc j) st' r)
+      let rest = past-ok (readAt 𝒯 P b j st) (λ x. sumOn 𝒯 P one b n (suc j) x) st' p ∙ whole-block b n (suc j) st' r in
+      omega arith
 
   -- ---- a no in code is at the last instruction examined
 
@@ -203,14 +209,14 @@ module _ (𝒯 : Tables) (P : Routine) where
     instruction-at last (end e) st = ask-at _ _ _ (ask-at _ _ _ (end-at e st))
 
   up-to-the-no : (b n j : ℕ) (st : Reading) (r : Refusal) → readOn 𝒯 P b n j st ≡ refused r
-      → P .start b + (j + examinedOn 𝒯 P b n j st) ≡ suc (r .second)
-  unfolding readOn examinedOn then past
+      → P .start b + (j + sumOn 𝒯 P one b n j st) ≡ suc (r .second)
+  unfolding readOn sumOn then past
   up-to-the-no b zero j st r q = absurd (not-ok (sym q))
   up-to-the-no b (suc n) j st r q = go (readAt 𝒯 P b j st) refl q (λ st' h. up-to-the-no b n (suc j) st' r h)
     where
       go : (o : Outcome Reading) → readAt 𝒯 P b j st ≡ o → then o (λ st'. readOn 𝒯 P b n (suc j) st') ≡ refused r
-          → ((st' : Reading) → readOn 𝒯 P b n (suc j) st' ≡ refused r → P .start b + (suc j + examinedOn 𝒯 P b n (suc j) st') ≡ suc (r .second))
-          → P .start b + (j + suc (past o (λ st'. examinedOn 𝒯 P b n (suc j) st'))) ≡ suc (r .second)
+          → ((st' : Reading) → readOn 𝒯 P b n (suc j) st' ≡ refused r → P .start b + (suc j + sumOn 𝒯 P one b n (suc j) st') ≡ suc (r .second))
+          → P .start b + (j + (1 + past o (λ st'. sumOn 𝒯 P one b n (suc j) st'))) ≡ suc (r .second)
       go (ok st') h q rest = let z = rest st' q in omega arith
       go (refused x) h q rest =
           let s : x ≡ r = refused-same {A = Unit {0}} q in
@@ -220,34 +226,34 @@ module _ (𝒯 : Tables) (P : Routine) where
   -- ---- the blocks before
 
   module _ (next : (b : ℕ) → P .start (suc b) ≡ P .start b + P .long b) where
-    all-blocks : (n b : ℕ) → firstNo n b (blockAsk 𝒯 P) ≡ ok tt → P .start b + examinedFrom 𝒯 P n b ≡ P .start (b + n)
-    unfolding firstNo examinedFrom blockAsk
+    all-blocks : (n b : ℕ) → firstNo n b (blockAsk 𝒯 P) ≡ ok tt → P .start b + sumFrom 𝒯 P one n b ≡ P .start (b + n)
+    unfolding firstNo sumFrom sumIn blockAsk
     all-blocks zero b q = let z : b + 0 ≡ b = omega arith in rw z (omega arith)
     all-blocks (suc n) b q =
         let (p, r) = passed-then _ _ q in
-        let one = whole-block b (P .long b) 0 (entry (P .annotation b)) p in
-        let rest = past-ok (readOn 𝒯 P b (P .long b) 0 (entry (P .annotation b))) (λ _. examinedFrom 𝒯 P n (suc b)) tt p in
+        let here = whole-block b (P .long b) 0 (entry (P .annotation b)) p in
+        let rest = past-ok (readOn 𝒯 P b (P .long b) 0 (entry (P .annotation b))) (λ _. sumFrom 𝒯 P one n (suc b)) tt p in
         let more = all-blocks n (suc b) r in
         let z : b + suc n ≡ suc b + n = omega arith in
         let s = next b in
-        rw (z, one, rest) (omega arith)
+        rw (z, here, rest) (omega arith)
 
-    blocks-until : (n b : ℕ) (r : Refusal) → firstNo n b (blockAsk 𝒯 P) ≡ refused r → P .start b + examinedFrom 𝒯 P n b ≡ suc (r .second)
-    unfolding firstNo examinedFrom blockAsk then past
+    blocks-until : (n b : ℕ) (r : Refusal) → firstNo n b (blockAsk 𝒯 P) ≡ refused r → P .start b + sumFrom 𝒯 P one n b ≡ suc (r .second)
+    unfolding firstNo sumFrom sumIn blockAsk then past
     blocks-until zero b r q = absurd (not-ok (sym q))
     blocks-until (suc n) b r q = go (readOn 𝒯 P b (P .long b) 0 (entry (P .annotation b))) refl q (λ h. blocks-until n (suc b) r h)
       where
         go : (o : Outcome (Unit {0})) → readOn 𝒯 P b (P .long b) 0 (entry (P .annotation b)) ≡ o → then o (λ _. firstNo n (suc b) (blockAsk 𝒯 P)) ≡ refused r
-            → (firstNo n (suc b) (blockAsk 𝒯 P) ≡ refused r → P .start (suc b) + examinedFrom 𝒯 P n (suc b) ≡ suc (r .second))
-            → P .start b + (examinedOn 𝒯 P b (P .long b) 0 (entry (P .annotation b)) + past o (λ _. examinedFrom 𝒯 P n (suc b))) ≡ suc (r .second)
+            → (firstNo n (suc b) (blockAsk 𝒯 P) ≡ refused r → P .start (suc b) + sumFrom 𝒯 P one n (suc b) ≡ suc (r .second))
+            → P .start b + (sumOn 𝒯 P one b (P .long b) 0 (entry (P .annotation b)) + past o (λ _. sumFrom 𝒯 P one n (suc b))) ≡ suc (r .second)
         go (ok u) h q rest =
-            let one = whole-block b (P .long b) 0 (entry (P .annotation b)) h in
+            let here = whole-block b (P .long b) 0 (entry (P .annotation b)) h in
             let more = rest q in
             let s = next b in
-            rw one (omega arith)
+            rw here (omega arith)
         go (refused x) h q rest =
             let z : x ≡ r = refused-same {A = Unit {0}} q in
-            let one = up-to-the-no b (P .long b) 0 (entry (P .annotation b)) x h in
+            let here = up-to-the-no b (P .long b) 0 (entry (P .annotation b)) x h in
             rw (← z) (omega arith)
 
 -- where no block is left over, the code ends where the last block does
@@ -273,18 +279,18 @@ module _ (types tags : List ℕ) (C : Code) where
   next b = refl
 
   bounded : askedOf types tags C ≤ 16 * examinedOf types tags C
-  unfolding askedOf examinedOf past
+  unfolding sumOf past
   bounded = go (tablesAsk types tags C) refl
     where
       go : (o : Outcome (Unit {0})) → tablesAsk types tags C ≡ o
-          → past o (λ _. askedFrom 𝒯′ P′ (P′ .count) 0) ≤ 16 * past o (λ _. examinedFrom 𝒯′ P′ (P′ .count) 0)
+          → past o (λ _. sumFrom 𝒯′ P′ (askedAt 𝒯′ P′) (P′ .count) 0) ≤ 16 * past o (λ _. sumFrom 𝒯′ P′ one (P′ .count) 0)
       go (ok u) e =
           let (l, t) = passed-types types tags C e in
           from-bound 𝒯′ P′ (sizes-eight types tags l t) (P′ .count) 0
       go (refused r) e = omega arith
 
-  tables-passed : tablesAsk types tags C ≡ ok tt → examinedOf types tags C ≡ P′ .start 0 + examinedFrom 𝒯′ P′ (P′ .count) 0
-  unfolding examinedOf routineOf startOf
+  tables-passed : tablesAsk types tags C ≡ ok tt → examinedOf types tags C ≡ P′ .start 0 + sumFrom 𝒯′ P′ one (P′ .count) 0
+  unfolding sumOf routineOf startOf
   tables-passed e = past-ok _ _ tt e ∙ sym (zero-add _)
 
   all-examined : check types tags C .number ≡ 0 → examinedOf types tags C ≡ length (C .code)
@@ -311,5 +317,5 @@ costs types tags C =
       bound = unfold checkAnswer in (bounded types tags C);
       accepted = all-examined types tags C;
       in-code = examined-to-no types tags C;
-      by-a-table = λ r e. unfold examinedOf in (past-no _ _ r e);
+      by-a-table = λ r e. unfold sumOf in (past-no _ _ r e);
     }

@@ -1,16 +1,15 @@
 -- The fit questions that an instruction puts are those that the rules say: they follow from the instruction and from what its questions come to.
 use mathlib.Core.Path.{_≡_, refl, sym, ap, subst, _∙_}
-use mathlib.Core.Logic.{_↔_}
-use mathlib.Core.Bool.{Bool, true, false, not}
+use mathlib.Core.Bool.{Bool, true, false}
 use mathlib.Core.List.{List}
-use Prim.Native.Nat.{ℕ, suc, _+_, _≤_, _<_}
+use Prim.Native.Nat.{ℕ, suc, _≤_, _<_}
 use native.Mathlib.Omega.{arith}
 use lib.Dec.{eqb, ltb}
 use borrow.Author.Tests.{eqb-true}
 use Rattle.model.specs.declared.Reference.{Reference}
 use Rattle.model.specs.declared.Reference.the-variants.{To, Nothing}
 use Rattle.model.specs.Question.{pick, Question, numberOf, q14, q15, Refusal, Outcome, ok, refused, provided, then}
-use Rattle.model.specs.Table.{Tables, tablesOf, Code, Routine, routineOf, lastAt, tablesAsk}
+use Rattle.model.specs.Table.{Tables, tablesOf, Code, Routine, routineOf, lastAt}
 use Rattle.model.specs.Machine.{Plain, constant, copy, add, subtract, multiply, divide, move, load, store, End, halt, jump, ifEqual, ifLess}
 use Rattle.model.specs.Machine.{Instruction, plain, end, malformed, instructionAt, targetsExist, formAsk, toLoad, toStore, Access}
 use Rattle.model.specs.Reading.{Reading, isOpen, taken, untaken}
@@ -21,7 +20,7 @@ use Rattle.model.specs.Cost.{plainAsked, edgesAsked, instructionAsked, a
 use Rattle.model.specs.Cost.{untaken-fails, PutByRules}
 use Rattle.model.proofs.Logic.{byTest, ok-then, ok-same, number-same}
 use Rattle.model.proofs.TableLaws.{sized}
-use Rattle.model.proofs.Exactly.{questionsAt, passed-lengths}
+use Rattle.model.proofs.Exactly.{passed-lengths}
 use Rattle.model.proofs.Cost.{provided-bound, reference-bound}
 use Rattle.model.proofs.ReadingBlocks.{type-given, obeys-exactly, refused-disobeys, disobeys-refused}
 

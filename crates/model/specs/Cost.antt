@@ -47,7 +47,7 @@ module _ (𝒯 : Tables) (P : Routine) where
   edgesAsked (ifEqual x k t) st = 8 + provided (edgeMeets 𝒯 P st (taken (ifEqual x k t) st) t) 0 λ _. 8
   edgesAsked (ifLess x y t) st = 8 + provided (edgeMeets 𝒯 P st (taken (ifLess x y t) st) t) 0 λ _. 8
 
-  -- an instruction of block b, its last or not: Q7 to Q9, and Q13 before the edges
+  -- what an instruction of block b puts, its last or not: nothing where Q7, Q8, Q9 or Q13 has a no
   unfoldable pub instructionAsked : ℕ → Bool → Instruction → Reading → ℕ
   instructionAsked b last x st =
       formAsk (λ _. 0) (P .count) b last
@@ -56,26 +56,41 @@ module _ (𝒯 : Tables) (P : Routine) where
   abbrev pub askedAt : ℕ → ℕ → Reading → ℕ
   askedAt b j st = instructionAsked b (lastAt P b j) (instructionAt P b j) st
 
-  -- n instructions of block b from offset j on, each after those before it had no no
-  unfoldable pub askedOn : ℕ → ℕ → ℕ → Reading → ℕ
-  askedOn b zero j st = 0
-  askedOn b (suc n) j st = askedAt b j st + past (readAt 𝒯 P b j st) (λ st'. askedOn b n (suc j) st')
+-- ---- what instructions count, added up over those that are examined: put to Q7
 
-  unfoldable pub blockAsked : ℕ → ℕ
-  blockAsked b = askedOn b (P .long b) 0 (entry (P .annotation b))
+module _ (𝒯 : Tables) (P : Routine) (each : ℕ → ℕ → Reading → ℕ) where
+  -- n instructions of block b from offset j on, as long as none has a no
+  unfoldable pub sumOn : ℕ → ℕ → ℕ → Reading → ℕ
+  sumOn b zero j st = 0
+  sumOn b (suc n) j st = each b j st + past (readAt 𝒯 P b j st) (λ st'. sumOn b n (suc j) st')
 
-  -- n blocks from block b on
-  unfoldable pub askedFrom : ℕ → ℕ → ℕ
-  askedFrom zero b = 0
-  askedFrom (suc n) b = blockAsked b + past (blockAsk 𝒯 P b) (λ _. askedFrom n (suc b))
+  unfoldable pub sumIn : ℕ → ℕ
+  sumIn b = sumOn b (P .long b) 0 (entry (P .annotation b))
 
-unfoldable pub askedOf : List ℕ → List ℕ → Code → ℕ
-askedOf types tags C = past (tablesAsk types tags C) (λ _. askedFrom (tablesOf types tags) (routineOf C) (routineOf C .count) 0)
+  -- n blocks from block b on, as long as none has a no
+  unfoldable pub sumFrom : ℕ → ℕ → ℕ
+  sumFrom zero b = 0
+  sumFrom (suc n) b = sumIn b + past (blockAsk 𝒯 P b) (λ _. sumFrom n (suc b))
 
--- ---- 'that the rules put': the count of an instruction by the rules alone
+-- all blocks, past Q1 to Q6
+unfoldable pub sumOf : (Tables → Routine → ℕ → ℕ → Reading → ℕ) → List ℕ → List ℕ → Code → ℕ
+sumOf each types tags C =
+    let 𝒯 = tablesOf types tags in
+    let P = routineOf C in
+    past (tablesAsk types tags C) (λ _. sumFrom 𝒯 P (each 𝒯 P) (P .count) 0)
+
+-- the fit questions put, and the instructions examined
+abbrev pub askedOf : List ℕ → List ℕ → Code → ℕ
+askedOf = sumOf askedAt
+
+abbrev pub examinedOf : List ℕ → List ℕ → Code → ℕ
+examinedOf = sumOf (λ 𝒯 P b j st. 1)
+
+-- ---- 'that the rules put': the same of one instruction by the rules alone; the sum is over the instructions that the check comes to
 
 module _ (𝒯 : Tables) (P : Routine) where
-  -- the instruction at offset j of block b, those before it having obeyed the rules, puts so many fit questions
+  -- The instruction at offset j of block b puts so many fit questions. ObeysAt and DisobeysAt are of an instruction that the rules come to,
+  -- those before it in the block having obeyed them.
   pub data Puts (b j : ℕ) : ℕ → Type 0 where
     -- a store that passes Q12, the last that it is asked, obeys the rules
     by-a-store : {a r c t : ℕ} → instructionAt P b j ≡ plain (store a r c) → ObeysAt 𝒯 P b j → TypeGiven 𝒯 P b j r t → Puts b j (𝒯 .size t)
@@ -98,26 +113,14 @@ PutByRules =
 abbrev pub counting : Verdict → ℕ → CheckAnswer
 counting v n = record { number = v .number; first = v .first; second = v .second; asked = n }
 
--- and beside it stays what it was
+-- number and place, without the count
 abbrev pub verdictIn : CheckAnswer → Verdict
 verdictIn a = record { number = a .number; first = a .first; second = a .second }
 
 unfoldable pub checkAnswer : List ℕ → List ℕ → Code → CheckAnswer
 checkAnswer types tags C = counting (check types tags C) (askedOf types tags C)
 
--- ---- 'at most 16 times the instructions examined': those put to Q7
-
-module _ (𝒯 : Tables) (P : Routine) where
-  unfoldable pub examinedOn : ℕ → ℕ → ℕ → Reading → ℕ
-  examinedOn b zero j st = 0
-  examinedOn b (suc n) j st = suc (past (readAt 𝒯 P b j st) (λ st'. examinedOn b n (suc j) st'))
-
-  unfoldable pub examinedFrom : ℕ → ℕ → ℕ
-  examinedFrom zero b = 0
-  examinedFrom (suc n) b = examinedOn b (P .long b) 0 (entry (P .annotation b)) + past (blockAsk 𝒯 P b) (λ _. examinedFrom n (suc b))
-
-unfoldable pub examinedOf : List ℕ → List ℕ → Code → ℕ
-examinedOf types tags C = past (tablesAsk types tags C) (λ _. examinedFrom (tablesOf types tags) (routineOf C) (routineOf C .count) 0)
+-- ---- 'it is at most 16 times the instructions examined'
 
 pub record Cost (types tags : List ℕ) (C : Code) : Type 0 where
   pub bound : checkAnswer types tags C .asked ≤ 16 * examinedOf types tags C
@@ -143,8 +146,8 @@ pub record CostCases : Type 0 where
   -- two branches, both edges of each; the last edge fails, and is counted whole
   pub bothEdges : CostsOf plotTypes (codeOf (stageBlocks 1) stageCode) (verdict 0 0 0) 32 7
   pub untakenFails : CostsOf plotTypes (codeOf (stageBlocks 0) stageCode) (verdict 15 2 4) 32 5
-  -- the first instruction of a routine can put 16: so the bound is met
-  pub boundMet : CostsOf plotTypes
+  -- the first instruction of a routine can put 16: so the bound is reached
+  pub boundReached : CostsOf plotTypes
       (codeOf (row 1 0 (typeWord 2 1 0 0) 0 0 0 0 0 0 ++ row 1 0 (refWord 1) 0 0 0 0 0 0 ++ row 1 0 0 0 0 0 0 0 0)
       (ifEqualWord 1 5 2 ∷ haltWord ∷ haltWord ∷ []))
       (verdict 15 0 0) 16 1
@@ -170,7 +173,7 @@ pub record CostCases : Type 0 where
       (codeOf (row 2 0 0 0 (refWord 0) 0 0 0 0) (storeWord 5 3 0 ∷ haltWord ∷ []))
       (verdict 23 0 0) 0 1
   pub otherRecord : CostsOf plotTypes (storesAndJump (storeWord 5 1 0) (storeWord 5 6 0)) (verdict 12 0 1) 2 2
-  -- no fit question is put to a load, a form or a table
+  -- a load, a form and a table count nothing; nor is it counted that Q10 asks what a base fits
   pub loadAlone : CostsOf plotTypes (codeOf (storeBlock 2 anyWord) (loadWord 2 1 0 ∷ haltWord ∷ [])) (verdict 0 0 0) 0 2
   pub noTarget : CostsOf plotTypes (codeOf (storeBlock 1 anyWord) (jumpWord 1 ∷ [])) (verdict 9 0 0) 0 1
   pub byATable : CostsOf plotTypes (codeOf (storeBlock 1 (refWord 3)) (jumpWord 0 ∷ [])) (verdict 6 0 0) 0 0

@@ -43,12 +43,12 @@ pub fn help() -> bool {
           Spaces, tabs and carriage returns separate; empty lines and lines that begin with # are passed over.\n\
           \n\
           NUMBER is 0 for passed or halted, 40 for paused, else that of the first question with a no, and A B is\n\
-          its place. ASKED is what the check of a routine cost: the fit questions put, refused or not. After a\n\
-          run: the blocks finished, the registers, the memory. A line of another form is answered by malformed\n\
-          and the byte, counted from 0, at which reading stopped.\n\
+          its place. ASKED is how many fit questions the check of a routine put, whether it accepts or refuses.\n\
+          After a run: the blocks finished, the registers, the memory. A line of another form is answered by\n\
+          malformed and the byte, counted from 0, at which reading stopped.\n\
           \n\
           Options:\n\
-          \x20 --words      after each answer two blanks, # and the answer's name, meaning, place and cost in words\n\
+          \x20 --words      after each answer two blanks, # and the answer's name, meaning, place and count in words\n\
           \x20 --lines      before each answer the number of its line, counted from 1 anew in each file\n\
           \x20 -h, --help   this text\n\
           \x20 --version    the version\n\

@@ -15,7 +15,7 @@ use Rattle.model.specs.Table.{Tables, tablesOf, Code, codeOf, Routine, routineO
 use Rattle.model.specs.Machine.{decode, targetsExist}
 use Rattle.model.specs.Reading.{Reading, laidAt, zeros, upFrom, entry}
 use Rattle.model.specs.Check.{noAt, readInstruction, readAt, readOn, blockAsk, judge, tableQuestions, tablesAsk, checkAsk, check}
-use Rattle.model.specs.Cost.{past, instructionAsked, askedOn, blockAsked, askedFrom, askedOf, counting, checkAnswer}
+use Rattle.model.specs.Cost.{past, instructionAsked, askedAt, sumOn, sumIn, sumFrom, sumOf, counting, checkAnswer}
 use Rattle.model.proofs.Logic.{byLess, byEqual, number-of, answer-number, all-passed, ok-verdict}
 use Rattle.model.proofs.Cost.{inside-bound, past-ok, past-no}
 use Rattle.table.proofs.Laws.{row-inside, start-more, routine-annotation, type-lengths-passed, code-lengths-passed, size-bounds, block-bounds}
@@ -28,7 +28,7 @@ use Rattle.access.proofs.Outcomes.{numbered-ok, numbered-no}
 use Rattle.access.proofs.Fields.{size-past}
 use Rattle.branch.specs.End.{EdgeRows}
 use Rattle.verify.specs.declared.Stopped.{Stopped}
-use Rattle.verify.specs.Blocks.{BlockAt, begun, LeftAt, ReadSoFar, verdictAt, judged}
+use Rattle.verify.specs.Blocks.{BlockAt, begun, LeftAt, ReadSoFar, verdictAt, askedIn, judged}
 
 -- ---- counts past questions
 
@@ -100,24 +100,24 @@ module _ (𝒯 : Tables) {P : Routine} {b first : ℕ} {part : List ℕ} (B : Bl
 
     -- the fit questions that it puts are k
     module _ (k : ℕ) (ek : k ≡ instructionAsked 𝒯 P b false (decode (getD part j 0)) st) where
-      one-counted : askedOn 𝒯 P b (n - j) j st ≡ k + past (numbered (noAt 𝒯 P b j) z st′) (λ x. askedOn 𝒯 P b (n - (j + 1)) (j + 1) x)
-      unfolding askedOn
+      one-counted : sumOn 𝒯 P (askedAt 𝒯 P) b (n - j) j st ≡ k + past (numbered (noAt 𝒯 P b j) z st′) (λ x. sumOn 𝒯 P (askedAt 𝒯 P) b (n - (j + 1)) (j + 1) x)
+      unfolding sumOn
       one-counted =
           let inner : lastAt P b j ≡ false = ne-eqb _ (P .long b) (λ e. omega (arith, B .long)) in
           rw (left n j (omega arith), read-at false inner r, inner, B .code, ← ek, add-one j)
 
-      counted-on : z ≡ 0 → askedOn 𝒯 P b (n - j) j st ≡ k + askedOn 𝒯 P b (n - (j + 1)) (j + 1) st′
+      counted-on : z ≡ 0 → sumOn 𝒯 P (askedAt 𝒯 P) b (n - j) j st ≡ k + sumOn 𝒯 P (askedAt 𝒯 P) b (n - (j + 1)) (j + 1) st′
       counted-on e = one-counted ∙ ap (λ (m : ℕ). k + m) (counts-on 𝒯 P b j z st′ _ e)
 
-      counted-stops : (z ≡ 0 → ⊥) → askedOn 𝒯 P b (n - j) j st ≡ k + past (numbered (noAt 𝒯 P b j) z st′) (λ x. askedOn 𝒯 P b 1 j x)
+      counted-stops : (z ≡ 0 → ⊥) → sumOn 𝒯 P (askedAt 𝒯 P) b (n - j) j st ≡ k + past (numbered (noAt 𝒯 P b j) z st′) (λ x. sumOn 𝒯 P (askedAt 𝒯 P) b 1 j x)
       counted-stops e = one-counted ∙ ap (λ (m : ℕ). k + m) (counts-none 𝒯 P b j z st′ _ e ∙ sym (counts-none 𝒯 P b j z st′ _ e))
 
   read-last : j + 1 ≡ n → Reads true → readOn 𝒯 P b 1 j st ≡ then (numbered (noAt 𝒯 P b j) z st′) (λ _. ok tt)
   unfolding readOn
   read-last h r = rw (read-at true (eq-eqb _ (P .long b) (omega (arith, B .long))) r)
 
-  counted-last : j + 1 ≡ n → (k : ℕ) → k ≡ instructionAsked 𝒯 P b true (decode (getD part j 0)) st → askedOn 𝒯 P b 1 j st ≡ k
-  unfolding askedOn
+  counted-last : j + 1 ≡ n → (k : ℕ) → k ≡ instructionAsked 𝒯 P b true (decode (getD part j 0)) st → sumOn 𝒯 P (askedAt 𝒯 P) b 1 j st ≡ k
+  unfolding sumOn
   counted-last h k ek =
       let last : lastAt P b j ≡ true = eq-eqb _ (P .long b) (omega (arith, B .long)) in
       let here : instructionAsked 𝒯 P b (lastAt P b j) (decode (getD (P .part b) j 0)) st ≡ k = rw (last, B .code) (sym ek) in
@@ -131,7 +131,7 @@ nowhere = routineOf (codeOf [] [])
 pub record InsideLeft (𝒯 : Tables) (part : List ℕ) (st₀ st : Reading) (number asked j : ℕ) : Type 0 where
   pub rest : (P : Routine) (b first : ℕ) → BlockAt P b first part → readOn 𝒯 P b (P .long b) 0 st₀ ≡ readOn 𝒯 P b (length part - j) j st
   pub count : (P : Routine) (b first : ℕ) → BlockAt P b first part
-      → askedOn 𝒯 P b (P .long b) 0 st₀ ≡ asked + askedOn 𝒯 P b (length part - j) j st
+      → sumOn 𝒯 P (askedAt 𝒯 P) b (P .long b) 0 st₀ ≡ asked + sumOn 𝒯 P (askedAt 𝒯 P) b (length part - j) j st
   pub none : number ≡ 0
   pub few : asked ≤ 8 * j
   pub within : j + 1 ≤ length part
@@ -226,11 +226,11 @@ module _ {𝒯 : Tables} {P : Routine} {b first : ℕ} {part : List ℕ} (B : Bl
 
   -- the block, where the blocks before it have put so many fit questions
   abbrev whole : ℕ → CheckAnswer
-  whole asked = counting (verdictOf (blockAsk 𝒯 P b)) (asked + blockAsked 𝒯 P b)
+  whole asked = counting (verdictOf (blockAsk 𝒯 P b)) (asked + askedIn 𝒯 P b)
 
   handed-is : (z k asked : ℕ) → verdictAt z b (P .start b + r .at) ≡ verdictOf (readOn 𝒯 P b (P .long b) 0 st)
-      → k ≡ asked + askedOn 𝒯 P b (P .long b) 0 st → st ≡ entry (P .annotation b) → handed z k ≡ whole asked
-  unfolding blockAsk blockAsked
+      → k ≡ asked + sumOn 𝒯 P (askedAt 𝒯 P) b (P .long b) 0 st → st ≡ entry (P .annotation b) → handed z k ≡ whole asked
+  unfolding blockAsk sumIn
   handed-is z k asked ev ek es = rw (← es, ← B .start, ev, ek)
 
   module _ (es : st ≡ entry (P .annotation b)) (asked : ℕ) where
@@ -238,7 +238,7 @@ module _ {𝒯 : Tables} {P : Routine} {b first : ℕ} {part : List ℕ} (B : Bl
     block-stops n =
         let L = S .left in
         handed-is (r .number) (asked + r .asked) asked (no-verdict 𝒯 P b (r .at) (r .number) st′ _ n (S .answers) ∙ ap verdictOf (sym (L .rest)))
-        (omega (arith, L .count, counts-none 𝒯 P b (r .at) (r .number) st′ (λ x. askedOn 𝒯 P b 1 (r .at) x) n)) es
+        (omega (arith, L .count, counts-none 𝒯 P b (r .at) (r .number) st′ (λ x. sumOn 𝒯 P (askedAt 𝒯 P) b 1 (r .at) x) n)) es
 
     module _ (e : r .number ≡ 0) (h : r .at + 1 ≡ length part) (z k : ℕ) (reads : Reads 𝒯 B (r .at) st′ st′ z true)
         (ek : k ≡ instructionAsked 𝒯 P b true (decode (getD part (r .at) 0)) st′) (l : isAnswer z ≡ true) where
@@ -257,7 +257,7 @@ module _ {𝒯 : Tables} {P : Routine} {b first : ℕ} {part : List ℕ} (B : Bl
           (omega (
             arith,
             S .left .count,
-            counts-on 𝒯 P b (r .at) (r .number) st′ (λ x. askedOn 𝒯 P b 1 (r .at) x) e,
+            counts-on 𝒯 P b (r .at) (r .number) st′ (λ x. sumOn 𝒯 P (askedAt 𝒯 P) b 1 (r .at) x) e,
             counted-last 𝒯 B (r .at) st′ st′ z h k ek,
           )) es
 
@@ -266,7 +266,7 @@ module _ {𝒯 : Tables} {P : Routine} {b first : ℕ} {part : List ℕ} (B : Bl
 -- As a loop judges them: from block b on they come to what all come to.
 pub record BlocksLeft (𝒯 : Tables) (P : Routine) (n asked b : ℕ) : Type 0 where
   pub rest : judge 𝒯 P ≡ firstNo (n - b) b (blockAsk 𝒯 P)
-  pub count : askedFrom 𝒯 P (P .count) 0 ≡ asked + askedFrom 𝒯 P (n - b) b
+  pub count : sumFrom 𝒯 P (askedAt 𝒯 P) (P .count) 0 ≡ asked + sumFrom 𝒯 P (askedAt 𝒯 P) (n - b) b
   pub within : b ≤ n
   pub few : asked ≤ 512 * b
 
@@ -275,31 +275,31 @@ unfolding judge routineOf
 judge-begins 𝒯 C = record { rest = rw sub-zero; count = rw sub-zero (sym (zero-add _)); within = omega arith; few = omega arith }
 
 module _ {𝒯 : Tables} {P : Routine} {n asked b : ℕ} (l : BlocksLeft 𝒯 P n asked b) where
-  one-block : b < n → askedFrom 𝒯 P (n - b) b ≡ blockAsked 𝒯 P b + past (blockAsk 𝒯 P b) (λ _. askedFrom 𝒯 P (n - (b + 1)) (b + 1))
-  unfolding askedFrom
+  one-block : b < n → sumFrom 𝒯 P (askedAt 𝒯 P) (n - b) b ≡ askedIn 𝒯 P b + past (blockAsk 𝒯 P b) (λ _. sumFrom 𝒯 P (askedAt 𝒯 P) (n - (b + 1)) (b + 1))
+  unfolding sumFrom
   one-block h = rw (left n b h, add-one b)
 
   pub judge-ends : n ≤ b → counting passed asked ≡ judged 𝒯 P
-  unfolding askedFrom
+  unfolding sumFrom
   judge-ends h =
       let z : n - b ≡ 0 = omega arith in
       ap (λ (v : Verdict). counting v asked) (first-end _ n b _ (l .rest) h)
       ∙ ap (counting (verdictOf (judge 𝒯 P))) (sym (l .count ∙ rw z (add-zero asked)))
 
   -- the block at hand, and its answer
-  module _ (h : b < n) (v : CheckAnswer) (ev : v ≡ counting (verdictOf (blockAsk 𝒯 P b)) (asked + blockAsked 𝒯 P b)) where
+  module _ (h : b < n) (v : CheckAnswer) (ev : v ≡ counting (verdictOf (blockAsk 𝒯 P b)) (asked + askedIn 𝒯 P b)) where
     number-is : v .number ≡ verdictOf (blockAsk 𝒯 P b) .number
     number-is = ap (λ (u : CheckAnswer). u .number) ev
 
-    asked-is : v .asked ≡ asked + blockAsked 𝒯 P b
+    asked-is : v .asked ≡ asked + askedIn 𝒯 P b
     asked-is = ap (λ (u : CheckAnswer). u .asked) ev
 
-    pub judge-on : v .number ≡ 0 → blockAsked 𝒯 P b ≤ 512 → BlocksLeft 𝒯 P n (v .asked) (b + 1)
+    pub judge-on : v .number ≡ 0 → askedIn 𝒯 P b ≤ 512 → BlocksLeft 𝒯 P n (v .asked) (b + 1)
     judge-on z few =
         let yes = no-refusal (blockAsk 𝒯 P b) _ refl (sym number-is ∙ z) in
         record {
           rest = first-on _ n b _ (l .rest) h yes;
-          count = omega (arith, l .count, one-block h, asked-is, past-ok (blockAsk 𝒯 P b) (λ _. askedFrom 𝒯 P (n - (b + 1)) (b + 1)) tt yes);
+          count = omega (arith, l .count, one-block h, asked-is, past-ok (blockAsk 𝒯 P b) (λ _. sumFrom 𝒯 P (askedAt 𝒯 P) (n - (b + 1)) (b + 1)) tt yes);
           within = omega arith;
           few = omega (arith, l .few, asked-is);
         }
@@ -307,9 +307,9 @@ module _ {𝒯 : Tables} {P : Routine} {n asked b : ℕ} (l : BlocksLeft 𝒯 P 
     pub judge-stops : (v .number ≡ 0 → ⊥) → v ≡ judged 𝒯 P
     judge-stops d =
         let no : verdictOf (blockAsk 𝒯 P b) .number ≡ 0 → ⊥ = λ z. d (number-is ∙ z) in
-        let none = past-refused (blockAsk 𝒯 P b) (λ _. askedFrom 𝒯 P (n - (b + 1)) (b + 1)) no in
+        let none = past-refused (blockAsk 𝒯 P b) (λ _. sumFrom 𝒯 P (askedAt 𝒯 P) (n - (b + 1)) (b + 1)) no in
         ev
-        ∙ ap (λ (u : Verdict). counting u (asked + blockAsked 𝒯 P b)) (first-no _ n b _ (l .rest) h _ refl no)
+        ∙ ap (λ (u : Verdict). counting u (asked + askedIn 𝒯 P b)) (first-no _ n b _ (l .rest) h _ refl no)
         ∙ ap (counting (verdictOf (judge 𝒯 P))) (omega (arith, l .count, one-block h, none))
 
 -- every size is at most 8: past the table it is 0
@@ -365,7 +365,7 @@ module _ (types tags : List ℕ) (C : Code) where
 
   module _ (v : Verdict) (e : v ≡ verdictOf (tablesAsk types tags C)) where
     pub check-stops : (v .number ≡ 0 → ⊥) → counting v 0 ≡ checkAnswer types tags C
-    unfolding checkAnswer check checkAsk askedOf
+    unfolding checkAnswer check checkAsk sumOf
     check-stops n =
         ap (λ (u : Verdict). counting u 0) (then-stops (tablesAsk types tags C) _ v e n)
         ∙ ap (counting (check types tags C)) (sym (past-refused (tablesAsk types tags C) _ (λ z. n (ap (λ (u : Verdict). u .number) e ∙ z))))
@@ -374,7 +374,8 @@ module _ (types tags : List ℕ) (C : Code) where
     tables-passed z = no-refusal (tablesAsk types tags C) v e z
 
     pub check-judges : v .number ≡ 0 → judged (tablesOf types tags) (routineOf C) ≡ checkAnswer types tags C
-    unfolding checkAnswer check checkAsk askedOf
+    unfolding checkAnswer check checkAsk sumOf
     check-judges z =
-        ap (λ (u : Verdict). counting u (askedFrom (tablesOf types tags) (routineOf C) (routineOf C .count) 0)) (sym (then-on (tablesAsk types tags C) _ v e z))
+        let asked = sumFrom (tablesOf types tags) (routineOf C) (askedAt (tablesOf types tags) (routineOf C)) (routineOf C .count) 0 in
+        ap (λ (u : Verdict). counting u asked) (sym (then-on (tablesAsk types tags C) _ v e z))
         ∙ ap (counting (check types tags C)) (sym (past-ok (tablesAsk types tags C) _ tt (tables-passed z)))

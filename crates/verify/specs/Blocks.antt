@@ -11,7 +11,7 @@ use Rattle.model.specs.Question.{pick, isAnswer, then, passed, verdictOf}
 use Rattle.model.specs.Table.{Tables, Routine, rows, startOf}
 use Rattle.model.specs.Reading.{Reading}
 use Rattle.model.specs.Check.{noAt, readOn, judge}
-use Rattle.model.specs.Cost.{past, askedOn, askedFrom, counting}
+use Rattle.model.specs.Cost.{past, askedAt, sumOn, sumIn, sumFrom, counting}
 use Rattle.access.specs.State.{reading, numbered}
 use Rattle.verify.specs.declared.Stopped.{Stopped}
 
@@ -35,10 +35,11 @@ pub record Stops (n : ℕ) (r : Stopped) : Type 0 where
   pub end : r .number ≡ 0 → r .at + 1 ≡ n
   pub few : r .asked ≤ 256
 
--- The block comes to what it comes to from offset i on, where the reading st′ has so far a number and has put k fit questions.
+-- A block read from st on comes to what is left of it at offset i, where the reading is st′, number is that of a no or 0, and k fit
+-- questions have been put.
 pub record LeftAt (𝒯 : Tables) (P : Routine) (b : ℕ) (st : Reading) (number i k : ℕ) (st′ : Reading) : Type 0 where
   pub rest : readOn 𝒯 P b (P .long b) 0 st ≡ then (numbered (noAt 𝒯 P b i) number st′) λ x. readOn 𝒯 P b 1 i x
-  pub count : askedOn 𝒯 P b (P .long b) 0 st ≡ k + past (numbered (noAt 𝒯 P b i) number st′) λ x. askedOn 𝒯 P b 1 i x
+  pub count : sumOn 𝒯 P (askedAt 𝒯 P) b (P .long b) 0 st ≡ k + past (numbered (noAt 𝒯 P b i) number st′) λ x. sumOn 𝒯 P (askedAt 𝒯 P) b 1 i x
 
 -- So it is with the reading that the arrays make where the code has stopped.
 pub record ReadSoFar (𝒯 : Tables) (P : Routine) (b : ℕ) (st : Reading) (r : Stopped) (registers words frames constants : List ℕ) : Type 0 where
@@ -52,6 +53,10 @@ pub record ReadSoFar (𝒯 : Tables) (P : Routine) (b : ℕ) (st : Reading) (r :
 abbrev pub verdictAt : ℕ → ℕ → ℕ → Verdict
 verdictAt number b i = pick (eqb number 0) passed (record { number = number; first = b; second = i })
 
+-- the fit questions that block b puts
+abbrev pub askedIn : Tables → Routine → ℕ → ℕ
+askedIn 𝒯 P b = sumIn 𝒯 P (askedAt 𝒯 P) b
+
 -- all blocks, and the fit questions that they put
 abbrev pub judged : Tables → Routine → CheckAnswer
-judged 𝒯 P = counting (verdictOf (judge 𝒯 P)) (askedFrom 𝒯 P (P .count) 0)
+judged 𝒯 P = counting (verdictOf (judge 𝒯 P)) (sumFrom 𝒯 P (askedAt 𝒯 P) (P .count) 0)

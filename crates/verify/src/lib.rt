@@ -10,12 +10,12 @@ ghost use Rattle.model.specs.Question.{Question, Refusal, isAnswer, ok, verdict
 ghost use Rattle.model.specs.Table.{codeOf, Routine, routineOf, tablesOf};
 ghost use Rattle.model.specs.Machine.{decode};
 ghost use Rattle.model.specs.Check.{readInstruction, blockAsk, tablesAsk};
-ghost use Rattle.model.specs.Cost.{instructionAsked, blockAsked, counting, checkAnswer};
+ghost use Rattle.model.specs.Cost.{instructionAsked, counting, checkAnswer};
 ghost use Rattle.instruction.specs.Rows.{opcodeRows};
 ghost use Rattle.known.specs.Numbers.{tablesIn};
 ghost use Rattle.access.specs.State.{Sizes, numbered};
 ghost use Rattle.branch.specs.End.{readingIn};
-ghost use Rattle.verify.specs.Blocks.{Starts, BlockAt, begun, Stops, ReadSoFar, verdictAt, judged};
+ghost use Rattle.verify.specs.Blocks.{Starts, BlockAt, begun, Stops, ReadSoFar, verdictAt, askedIn, judged};
 use access::Fetched;
 use access::NO_BASE;
 use access::Progress;
@@ -167,7 +167,8 @@ fn answered(number: u32, b: usize, index: usize, asked: u32) -> CheckAnswer
     answer::counting(answer::refused_at(number, b, index), asked)
 }
 
-// Q7 to Q15 and Q23 of block b, whose code is part and starts at first. The blocks before it have put so many fit questions.
+// Q7 to Q15 and Q23 of block b, whose code is part and starts at first. The blocks before it have put so many fit questions: at most 512
+// each, so that no sum overflows.
 fn block(
     rows: &[[u32; 2]; instruction::OPCODES],
     types: &[u32],
@@ -182,7 +183,7 @@ fn block(
         × (1 ≤ length (now part)) × (length (now part) ≤ 32) × (first ≤ 8192) × (asked ≤ 131072) ⌝ }
     ensures { λ r. ⌜ ((code : List ℕ) → BlockAt (routineOf (codeOf (now (blocks .entry)) code)) b first (now (part .entry))
         → r ≡ counting (verdictOf (blockAsk (tablesOf (now (types .entry)) (now (tags .entry))) (routineOf (codeOf (now (blocks .entry)) code)) b))
-        (asked + blockAsked (tablesOf (now (types .entry)) (now (tags .entry))) (routineOf (codeOf (now (blocks .entry)) code)) b)) ⌝ }
+        (asked + askedIn (tablesOf (now (types .entry)) (now (tags .entry))) (routineOf (codeOf (now (blocks .entry)) code)) b)) ⌝ }
 {
     let own = table::row(blocks, b);
     let mut registers = [0u8, 1, 2, 3, 4, 5, 6, 7];
@@ -259,8 +260,8 @@ fn judge(
 
 // ---- the check
 
-// The check of a routine: the first no, with its place, and the fit questions put. All questions of the tables are asked here: so the compiler takes
-// the blocks for what is seldom come to, and leaves `judge` a function of its own, in which the loops have the registers to themselves.
+// The check of a routine: the first no, with its place, and the fit questions put. All questions of the tables are asked here: so the
+// compiler takes the blocks for what is seldom come to, and leaves `judge` a function of its own, in which the loops have the registers to themselves.
 pub fn check(types: &[u32], tags: &[u32], blocks: &[u32], code: &[u32]) -> CheckAnswer
     ensures { λ r. ⌜ r ≡ checkAnswer (now (types .entry)) (now (tags .entry)) (codeOf (now (blocks .entry)) (now (code .entry))) ⌝ }
 {

@@ -82,9 +82,9 @@ pub struct CheckAnswer {
     pub number: u32,
     pub first: u32,
     pub second: u32,
-    /// How often it was asked whether a value fits a type, up to the answer: by a store that is not refused once for each field of its
-    /// record, by an edge of a jump or branch eight times, counted whole even where one fails. A refusal has its number too, 0 where it is
-    /// 1 to 6. It is at most 16 times the instructions examined.
+    /// How many fit questions were put, up to the answer: one for each field of its record by every store that is not refused, eight by
+    /// every edge of a jump or branch, counted whole even where one fails. A refusal has a count too; it is 0 for 1 to 6. At most 16 times
+    /// the instructions examined.
     pub asked: u32,
 }
 

@@ -8,10 +8,10 @@ use lib.ListN.{length, getD, take, drop}
 use Rattle.table.proofs.Laws.{start-more, tables-size}
 use Rattle.model.specs.declared.Verdict.{Verdict}
 use Rattle.model.specs.Table.{codeOf, tablesOf, routineOf, rows, headOf, startOf}
-use Rattle.model.specs.Cost.{blockAsked, counting}
+use Rattle.model.specs.Cost.{counting}
 use Rattle.model.proofs.Cost.{block-bound}
 use Rattle.instruction.specs.Rows.{opcodeRows}
-use Rattle.verify.specs.Blocks.{BlockAt}
+use Rattle.verify.specs.Blocks.{BlockAt, askedIn}
 use Rattle.verify.proofs.Blocks.{BlocksLeft, judge-begins, judge-on, judge-stops, judge-ends, Tabled, tabled, block-at, block-long}
 use borrow.Author.Needs.{needs}
 use Rattle.verify.proofs.judge.Statement.{statement}
@@ -83,7 +83,7 @@ here c = let p = placed c in block-at (blocks c) (code c) (block c) (first c) (e
 
 -- a block puts at most 16 fit questions for each of its 32 instructions
 few : (c : tie.In-loop Inv-loop μ-loop) → let s = start (c .before) .args in
-    blockAsked (tablesOf (now (s .types)) (now (s .tags))) (routineOf (codeOf (blocks c) (code c))) (block c) ≤ 512
+    askedIn (tablesOf (now (s .types)) (now (s .tags))) (routineOf (codeOf (blocks c) (code c))) (block c) ≤ 512
 few c =
     let s = start (c .before) .args in
     let p = placed c in
