@@ -2,25 +2,26 @@
 use mathlib.Core.Path.{_≡_, refl, sym, ap, _∙_}
 use mathlib.Core.Bool.{Bool, true, false, not}
 use mathlib.Core.List.{List}
-use Prim.Native.Nat.{ℕ, zero, suc, _+_, _*_, _≤_}
+use Prim.Native.Nat.{ℕ, zero, suc, _+_, _*_, _≤_, _<_}
 use native.Mathlib.Omega.{arith}
 use native.Mathlib.Nat.{zero-add}
 use lib.ListN.{length}
-use borrow.Author.Tests.{eqb-true}
 use Rattle.model.specs.declared.Reference.{Reference}
 use Rattle.model.specs.declared.Reference.the-variants.{To, Nothing}
-use Rattle.model.specs.Question.{Question, Refusal, Outcome, ok, refused, provided, ask, then, firstNo, verdictOf}
-use Rattle.model.specs.Table.{Tables, tablesOf, Code, Routine, routineOf, startOf, headOf, lastAt, rows, blocksAsk, lengthsAsk, tablesAsk}
+use Rattle.model.specs.Question.{Refusal, Outcome, ok, refused, provided, then, firstNo, verdictOf}
+use Rattle.model.specs.Table.{Tables, tablesOf, Code, Routine, routineOf, startOf, lastAt, lengthsAsk, tablesAsk}
 use Rattle.model.specs.Machine.{Plain, constant, copy, add, subtract, multiply, divide, move, load, store, End, halt, jump, ifEqual, ifLess}
-use Rattle.model.specs.Machine.{Instruction, plain, end, malformed, instructionAt, targetsExist, formAsk, Access}
+use Rattle.model.specs.Machine.{Instruction, plain, end, malformed, instructionAt, targetsExist, formAsk}
 use Rattle.model.specs.Reading.{Reading, entry, isOpen, taken}
-use Rattle.model.specs.Check.{withReference, referenceIn, onRecord, readPlain, edgeMeets, readEdges, noAt, readEnd, readInstruction, readAt, readOn}
-use Rattle.model.specs.Check.{blockAsk, judge, checkAsk, check}
+use Rattle.model.specs.Check.{withReference, referenceIn, onRecord, edgeMeets, readAt, readOn}
+use Rattle.model.specs.Check.{blockAsk, judge, readingAt, checkAsk, check}
 use Rattle.model.specs.Cost.{past, plainAsked, edgesAsked, instructionAsked, askedAt, sumOn, sumIn, sumFrom, sumOf, askedOf, examinedOf}
 use Rattle.model.specs.Cost.{checkAnswer, Costs}
-use Rattle.model.proofs.Logic.{ask-ok, then-ok, ok-then, passed-then, verdict-ok, ok-verdict, not-ok, refused-same}
-use Rattle.model.proofs.TableLaws.{sizes-eight}
+use Rattle.model.proofs.Logic.{then-ok, ok-then, passed-then, verdict-ok, ok-verdict, not-ok, refused-same}
+use Rattle.model.proofs.TableLaws.{sizes-eight, sized}
 use Rattle.model.proofs.Exactly.{passed-lengths, passed-types}
+use Rattle.model.proofs.ReadingBlocks.{refused-disobeys}
+use Rattle.model.proofs.Exact.{check-accepts}
 
 -- each instruction once
 abbrev one : ℕ → ℕ → Reading → ℕ
@@ -143,88 +144,6 @@ module _ (𝒯 : Tables) (P : Routine) where
       let rest = past-ok (readAt 𝒯 P b j st) (λ x. sumOn 𝒯 P one b n (suc j) x) st' p ∙ whole-block b n (suc j) st' r in
       omega arith
 
-  -- ---- a no in code is at the last instruction examined
-
-  -- each no of some questions is at code index i
-  abbrev NoAt : {A : Type 0} → ℕ → Outcome A → Type 0
-  NoAt i o = (r : Refusal) → o ≡ refused r → r .second ≡ i
-
-  module _ (b j : ℕ) where
-    abbrev index : ℕ
-    index = P .start b + j
-
-    ok-at : {A : Type 0} (a : A) → NoAt index (ok a)
-    ok-at a r e = absurd (not-ok (sym e))
-
-    no-at : {A : Type 0} (q : Question) → NoAt {A = A} index (refused (noAt 𝒯 P b j q))
-    no-at {A = A} q r e = let z : noAt 𝒯 P b j q ≡ r = refused-same {A = A} e in rw (← z) refl
-
-    ask-at : {A : Type 0} (c : Bool) (q : Question) (k : Unit {0} → Outcome A) → NoAt index (k tt) → NoAt index (ask c (noAt 𝒯 P b j q) k)
-    unfolding provided
-    ask-at true q k h = h
-    ask-at false q k h = no-at q
-
-    reference-at : {A : Type 0} (o : Reference) (q : Question) (k : ℕ → Outcome A) → ((t : ℕ) → NoAt index (k t))
-        → NoAt index (withReference o (refused (noAt 𝒯 P b j q)) k)
-    unfolding withReference
-    reference-at (To t) q k h = h t
-    reference-at Nothing q k h = no-at q
-
-    record-at : (x : Access) (st : Reading) (r c : ℕ) (k : ℕ → Reading) → NoAt index (onRecord 𝒯 (λ q. refused (noAt 𝒯 P b j q)) x st r c (λ t. ok (k t)))
-    unfolding onRecord
-    record-at x st r c k = reference-at _ _ _ (λ t. ask-at _ _ _ (ask-at _ _ _ (ask-at _ _ _ (ok-at (k t)))))
-
-    plain-at : (x : Plain) (st : Reading) → NoAt index (readPlain 𝒯 (noAt 𝒯 P b j) (suc j) x st)
-    unfolding readPlain
-    plain-at (constant a c) st = ok-at _
-    plain-at (copy a c) st = ok-at _
-    plain-at (add a c d) st = ok-at _
-    plain-at (subtract a c d) st = ok-at _
-    plain-at (multiply a c d) st = ok-at _
-    plain-at (divide a c d) st = ok-at _
-    plain-at (move a c d) st = ok-at _
-    plain-at (load a c d) st = record-at _ st c d _
-    plain-at (store a c d) st = record-at _ st c d _
-
-    edges-at : (n : ℕ) (e : End) (st : Reading) → NoAt index (readEdges 𝒯 P (noAt 𝒯 P b j) n e st)
-    unfolding readEdges
-    edges-at n halt st = ok-at _
-    edges-at n (jump t) st = ask-at _ _ _ (ok-at _)
-    edges-at n (ifEqual x k t) st = ask-at _ _ _ (ask-at _ _ _ (ok-at _))
-    edges-at n (ifLess x y t) st = ask-at _ _ _ (ask-at _ _ _ (ok-at _))
-
-    then-at : (o : Outcome (Unit {0})) (st : Reading) → NoAt index o → NoAt index (then o (λ _. ok st))
-    unfolding then
-    then-at (ok u) st h = ok-at st
-    then-at (refused x) st h = λ r e. h r (ap {B = Outcome (Unit {0})} refused (refused-same {A = Reading} e))
-
-    end-at : (e : End) (st : Reading) → NoAt index (readEnd 𝒯 P (noAt 𝒯 P b j) b e st)
-    unfolding readEnd
-    end-at e st = ask-at _ _ _ (then-at _ st (edges-at (suc b) e st))
-
-    instruction-at : (last : Bool) (x : Instruction) (st : Reading) → NoAt index (readInstruction 𝒯 P (noAt 𝒯 P b j) b (suc j) last x st)
-    unfolding readInstruction formAsk
-    instruction-at last malformed st = no-at _
-    instruction-at last (plain x) st = ask-at _ _ _ (plain-at x st)
-    instruction-at last (end e) st = ask-at _ _ _ (ask-at _ _ _ (end-at e st))
-
-  up-to-the-no : (b n j : ℕ) (st : Reading) (r : Refusal) → readOn 𝒯 P b n j st ≡ refused r
-      → P .start b + (j + sumOn 𝒯 P one b n j st) ≡ suc (r .second)
-  unfolding readOn sumOn then past
-  up-to-the-no b zero j st r q = absurd (not-ok (sym q))
-  up-to-the-no b (suc n) j st r q = go (readAt 𝒯 P b j st) refl q (λ st' h. up-to-the-no b n (suc j) st' r h)
-    where
-      go : (o : Outcome Reading) → readAt 𝒯 P b j st ≡ o → then o (λ st'. readOn 𝒯 P b n (suc j) st') ≡ refused r
-          → ((st' : Reading) → readOn 𝒯 P b n (suc j) st' ≡ refused r → P .start b + (suc j + sumOn 𝒯 P one b n (suc j) st') ≡ suc (r .second))
-          → P .start b + (j + (1 + past o (λ st'. sumOn 𝒯 P one b n (suc j) st'))) ≡ suc (r .second)
-      go (ok st') h q rest = let z = rest st' q in omega arith
-      go (refused x) h q rest =
-          let s : x ≡ r = refused-same {A = Unit {0}} q in
-          let i : r .second ≡ P .start b + j = rw (← s) (instruction-at b j (lastAt P b j) (instructionAt P b j) st x h) in
-          omega arith
-
-  -- ---- the blocks before
-
   module _ (next : (b : ℕ) → P .start (suc b) ≡ P .start b + P .long b) where
     all-blocks : (n b : ℕ) → firstNo n b (blockAsk 𝒯 P) ≡ ok tt → P .start b + sumFrom 𝒯 P one n b ≡ P .start (b + n)
     unfolding firstNo sumFrom sumIn blockAsk
@@ -238,33 +157,6 @@ module _ (𝒯 : Tables) (P : Routine) where
         let s = next b in
         rw (z, here, rest) (omega arith)
 
-    blocks-until : (n b : ℕ) (r : Refusal) → firstNo n b (blockAsk 𝒯 P) ≡ refused r → P .start b + sumFrom 𝒯 P one n b ≡ suc (r .second)
-    unfolding firstNo sumFrom sumIn blockAsk then past
-    blocks-until zero b r q = absurd (not-ok (sym q))
-    blocks-until (suc n) b r q = go (readOn 𝒯 P b (P .long b) 0 (entry (P .annotation b))) refl q (λ h. blocks-until n (suc b) r h)
-      where
-        go : (o : Outcome (Unit {0})) → readOn 𝒯 P b (P .long b) 0 (entry (P .annotation b)) ≡ o → then o (λ _. firstNo n (suc b) (blockAsk 𝒯 P)) ≡ refused r
-            → (firstNo n (suc b) (blockAsk 𝒯 P) ≡ refused r → P .start (suc b) + sumFrom 𝒯 P one n (suc b) ≡ suc (r .second))
-            → P .start b + (sumOn 𝒯 P one b (P .long b) 0 (entry (P .annotation b)) + past o (λ _. sumFrom 𝒯 P one n (suc b))) ≡ suc (r .second)
-        go (ok u) h q rest =
-            let here = whole-block b (P .long b) 0 (entry (P .annotation b)) h in
-            let more = rest q in
-            let s = next b in
-            rw here (omega arith)
-        go (refused x) h q rest =
-            let z : x ≡ r = refused-same {A = Unit {0}} q in
-            let here = up-to-the-no b (P .long b) 0 (entry (P .annotation b)) x h in
-            rw (← z) (omega arith)
-
--- where no block is left over, the code ends where the last block does
-ends-with-code : (blocks : List ℕ) (total n b i : ℕ) → i ≡ startOf blocks b → blocksAsk blocks total n b i ≡ ok tt → startOf blocks (b + n) ≡ total
-unfolding blocksAsk startOf
-ends-with-code blocks total zero b i e q = let z : b + 0 ≡ b = omega arith in rw (z, ← e) (eqb-true i total (ask-ok _ _ _ q .0))
-ends-with-code blocks total (suc n) b i e q =
-    let (h, r) = ask-ok _ _ _ q in
-    let z : b + suc n ≡ suc b + n = omega arith in
-    rw z (ends-with-code blocks total n (suc b) (i + headOf blocks b) (ap (λ (y : ℕ). y + headOf blocks b) e) r)
-
 -- ---- the public call
 
 module _ (types tags : List ℕ) (C : Code) where
@@ -277,6 +169,46 @@ module _ (types tags : List ℕ) (C : Code) where
   next : (b : ℕ) → P′ .start (suc b) ≡ P′ .start b + P′ .long b
   unfolding routineOf startOf
   next b = refl
+
+  -- a no in code is at the last instruction examined
+  up-to-the-no : (b : ℕ) → P′ .long b ≤ 32 → (n j : ℕ) (st : Reading) (r : Refusal) → readingAt 𝒯′ P′ b j ≡ ok st → j + n ≤ P′ .long b
+      → readOn 𝒯′ P′ b n j st ≡ refused r → P′ .start b + (j + sumOn 𝒯′ P′ one b n j st) ≡ suc (r .second)
+  unfolding readOn readingAt sumOn then past
+  up-to-the-no b m zero j st r i l q = absurd (not-ok (sym q))
+  up-to-the-no b m (suc n) j st r i l q =
+      go (readAt 𝒯′ P′ b j st) refl q (λ st' e h. up-to-the-no b m n (suc j) st' r (ok-then _ _ st i ∙ e) (omega arith) h)
+    where
+      go : (o : Outcome Reading) → readAt 𝒯′ P′ b j st ≡ o → then o (λ st'. readOn 𝒯′ P′ b n (suc j) st') ≡ refused r
+          → ((st' : Reading) → readAt 𝒯′ P′ b j st ≡ ok st' → readOn 𝒯′ P′ b n (suc j) st' ≡ refused r
+          → P′ .start b + (suc j + sumOn 𝒯′ P′ one b n (suc j) st') ≡ suc (r .second))
+          → P′ .start b + (j + (1 + past o (λ st'. sumOn 𝒯′ P′ one b n (suc j) st'))) ≡ suc (r .second)
+      go (ok st') h q rest = let z = rest st' h q in omega arith
+      go (refused x) h q rest =
+          let (k, is, D) = refused-disobeys types tags C b j x m (omega arith) (record { reading = st; reads = i; no = h }) in
+          let s : x ≡ r = refused-same {A = Unit {0}} q in
+          let at : r .second ≡ P′ .start b + j = ap (λ (y : Refusal). y .second) (sym s ∙ is) in
+          omega arith
+
+  blocks-until : ((b : ℕ) → b < P′ .count → P′ .long b ≤ 32) → (n b : ℕ) (r : Refusal) → b + n ≤ P′ .count
+      → firstNo n b (blockAsk 𝒯′ P′) ≡ refused r → P′ .start b + sumFrom 𝒯′ P′ one n b ≡ suc (r .second)
+  unfolding firstNo readingAt sumFrom sumIn blockAsk then past
+  blocks-until short zero b r l q = absurd (not-ok (sym q))
+  blocks-until short (suc n) b r l q =
+      go (readOn 𝒯′ P′ b (P′ .long b) 0 (entry (P′ .annotation b))) refl q (λ h. blocks-until short n (suc b) r (omega arith) h)
+    where
+      go : (o : Outcome (Unit {0})) → readOn 𝒯′ P′ b (P′ .long b) 0 (entry (P′ .annotation b)) ≡ o
+          → then o (λ _. firstNo n (suc b) (blockAsk 𝒯′ P′)) ≡ refused r
+          → (firstNo n (suc b) (blockAsk 𝒯′ P′) ≡ refused r → P′ .start (suc b) + sumFrom 𝒯′ P′ one n (suc b) ≡ suc (r .second))
+          → P′ .start b + (sumOn 𝒯′ P′ one b (P′ .long b) 0 (entry (P′ .annotation b)) + past o (λ _. sumFrom 𝒯′ P′ one n (suc b))) ≡ suc (r .second)
+      go (ok u) h q rest =
+          let here = whole-block 𝒯′ P′ b (P′ .long b) 0 (entry (P′ .annotation b)) h in
+          let more = rest q in
+          let s = next b in
+          rw here (omega arith)
+      go (refused x) h q rest =
+          let z : x ≡ r = refused-same {A = Unit {0}} q in
+          let here = up-to-the-no b (short b (omega arith)) (P′ .long b) 0 (entry (P′ .annotation b)) x refl (omega arith) h in
+          rw (← z) (omega arith)
 
   bounded : askedOf types tags C ≤ 16 * examinedOf types tags C
   unfolding sumOf past
@@ -297,19 +229,23 @@ module _ (types tags : List ℕ) (C : Code) where
   unfolding check checkAsk judge lengthsAsk routineOf startOf
   all-examined e =
       let (t, q) = passed-then _ _ (verdict-ok _ e) in
-      let ends = ends-with-code (C .blocks) (length (C .code)) (rows (C .blocks)) 0 0 refl (passed-lengths types tags C t) in
-      tables-passed t ∙ all-blocks 𝒯′ P′ next (P′ .count) 0 q ∙ ends
+      let whole : 0 + P′ .count ≡ P′ .count = omega arith in
+      let ends = check-accepts types tags C .0 e .blocksPass .sum in
+      tables-passed t ∙ all-blocks 𝒯′ P′ next (P′ .count) 0 q ∙ ap (P′ .start) whole ∙ ends
 
   examined-to-no : tablesAsk types tags C ≡ ok tt → (check types tags C .number ≡ 0 → ⊥) → examinedOf types tags C ≡ suc (check types tags C .second)
   unfolding check checkAsk judge
   examined-to-no t n = go (judge 𝒯′ P′) refl
     where
+      short : (b : ℕ) → b < P′ .count → P′ .long b ≤ 32
+      short b h = sized C (passed-lengths types tags C t) .most b h
+
       whole : (o : Outcome (Unit {0})) → judge 𝒯′ P′ ≡ o → checkAsk types tags C ≡ o
       whole o e = ok-then _ _ tt t ∙ e
 
       go : (o : Outcome (Unit {0})) → judge 𝒯′ P′ ≡ o → examinedOf types tags C ≡ suc (verdictOf (checkAsk types tags C) .second)
       go (ok u) e = absurd (n (ok-verdict _ (whole (ok u) e)))
-      go (refused r) e = tables-passed t ∙ blocks-until 𝒯′ P′ next (P′ .count) 0 r e ∙ rw (whole (refused r) e) (unfold verdictOf in refl)
+      go (refused r) e = tables-passed t ∙ blocks-until short (P′ .count) 0 r (omega arith) e ∙ rw (whole (refused r) e) (unfold verdictOf in refl)
 
 pub costs : Costs
 costs types tags C =

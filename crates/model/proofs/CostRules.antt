@@ -17,7 +17,9 @@ use Rattle.model.specs.ReadingRules.{ObeysAt, DisobeysAt}
 use Rattle.model.specs.Check.{valueIn, withReference, referenceIn, mayTouch, permits, onRecord, readPlain, edgeMeets, readEdges, noAt, readEnd}
 use Rattle.model.specs.Check.{readInstruction, readAt, readingAt}
 use Rattle.model.specs.Cost.{plainAsked, edgesAsked, instructionAsked, askedAt, Puts, by-a-store, by-a-jump, by-if-equal, by-if-less, taken-fails}
-use Rattle.model.specs.Cost.{untaken-fails, PutByRules}
+use Rattle.model.specs.Cost.{untaken-fails, PutByRules, storesAndJump}
+use Rattle.model.specs.Cases.{storeWord, plotTypes, plotTags}
+use Rattle.model.proofs.Compute.{computed}
 use Rattle.model.proofs.Logic.{byTest, ok-then, ok-same, number-same}
 use Rattle.model.proofs.TableLaws.{sized}
 use Rattle.model.proofs.Exactly.{passed-lengths}
@@ -218,3 +220,11 @@ pub put-by-rules : PutByRules
 put-by-rules types tags C t b j n st h l q p =
     let m = sized C (passed-lengths types tags C t) .most b h in
     (put types tags C b j st m l q n p, asked types tags C b j st m l q n)
+
+-- what it assumes can be met: a store to a record of two fields, at the beginning of a routine past Q1 to Q6, puts 2
+abbrev stores : Code
+stores = storesAndJump (storeWord 5 1 0) (storeWord 4 1 1)
+
+pub put-met : Puts (tablesOf plotTypes plotTags) (routineOf stores) 0 0 2
+unfolding computed readingAt
+put-met = put-by-rules plotTypes plotTags stores refl 0 0 2 _ (omega arith) (omega arith) refl (omega arith) .0 refl
