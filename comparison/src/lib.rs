@@ -1,9 +1,10 @@
-//! The proved library as one of two implementations of the same four calls.
+//! The proved library as one of two implementations of the same six calls.
 
+pub mod choice;
 pub mod fast;
 
 use ramdulsi as proved;
-use ramdulsi_reference::{CheckAnswer, Loader, RunAnswer, Verdict};
+use ramdulsi_reference::{CheckAnswer, Loader, OfferedAnswer, RunAnswer, Verdict};
 
 /// The proved library.
 pub struct Proved;
@@ -12,10 +13,22 @@ fn verdict(v: proved::Verdict) -> Verdict {
     Verdict { number: v.number, first: v.first, second: v.second }
 }
 
+fn offered_answer(a: proved::OfferedAnswer) -> OfferedAnswer {
+    OfferedAnswer { number: a.number, first: a.first, second: a.second, asked: a.asked, choice: a.choice }
+}
+
 impl Loader for Proved {
     fn check(types: &[u32], tags: &[u32], blocks: &[u32], code: &[u32]) -> CheckAnswer {
         let a = proved::check(types, tags, blocks, code);
         CheckAnswer { number: a.number, first: a.first, second: a.second, asked: a.asked }
+    }
+
+    fn check_offered(types: &[u32], tags: &[u32], blocks: &[u32], code: &[u32], offered: &[u32]) -> OfferedAnswer {
+        offered_answer(proved::check_offered(types, tags, blocks, code, offered))
+    }
+
+    fn fill(types: &[u32], tags: &[u32], blocks: &mut [u32], code: &[u32], offered: &[u32]) -> OfferedAnswer {
+        offered_answer(proved::fill(types, tags, blocks, code, offered))
     }
 
     fn memory_check(types: &[u32], tags: &[u32], allocations: &[u32], memory: &[u32]) -> Verdict {

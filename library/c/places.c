@@ -1,5 +1,5 @@
-/* Each answer of each call with its place, as the header states them, and of a routine's check the number of fit questions.
- * library/c/places.out has them as written by hand. Tables of no words are handed in as null pointers.
+/* Each answer of each call with its place, as the header states them, of a routine's check the number of fit questions, and where rows are
+ * offered the choice. library/c/places.out has them as written by hand. Tables of no words are handed in as null pointers.
  */
 #include <inttypes.h>
 #include <stdio.h>
@@ -9,11 +9,13 @@
 
 #define ROW RAMDULSI_LIMIT_ROW_WORDS
 
-/* All that a call may be handed, small and without a no: two types of two fields, two tags, three blocks, two records. */
+#define OFFER RAMDULSI_LIMIT_OFFERED_WORDS
+
+/* All that a call may be handed, small and without a no: two types of two fields, two tags, three blocks, two records, two offered rows. */
 struct given {
     uint32_t types[2 * ROW], tags[RAMDULSI_LIMIT_TAGS + 1], blocks[3 * ROW], code[6];
-    uint32_t allocations[4], memory[8], registers[8], block;
-    size_t types_words, tags_words, blocks_words, code_words, allocations_words, memory_words;
+    uint32_t allocations[4], memory[8], registers[8], block, offered[(RAMDULSI_LIMIT_OFFERED + 1) * OFFER];
+    size_t types_words, tags_words, blocks_words, code_words, allocations_words, memory_words, offered_words;
     uint64_t budget;
 };
 
@@ -37,6 +39,8 @@ static struct given whole(void)
     ramdulsi_row_of_allocation(g.allocations + 2, 3, 1);
     g.memory[2] = 3;
     g.registers[2] = 1;
+    memcpy(g.offered + OFFER, reference, sizeof(reference));
+    g.offered_words = 2 * OFFER;
     g.types_words = 2 * ROW, g.tags_words = 2, g.blocks_words = 3 * ROW, g.code_words = 6, g.allocations_words = 4, g.memory_words = 8;
     g.budget = 10;
     return g;
@@ -60,6 +64,23 @@ static void check(const char *what, struct given g)
     uint32_t verdict[3] = {99, 99, 99};
     uint32_t number = ramdulsi_check(TABLE(types), TABLE(tags), TABLE(blocks), TABLE(code), verdict);
     printf("check, %" PRIu32 " asked, ", verdict[2]);
+    show(what, number, verdict[0], verdict[1]);
+}
+
+/* The check with an offered list, and the same with the rows laid into the table: both answer alike. */
+static void offered(const char *what, struct given g)
+{
+    uint32_t verdict[3] = {99, 99, 99}, choice[3] = {99, 99, 99}, again[3] = {99, 99, 99}, chosen[3] = {99, 99, 99};
+    uint32_t blocks[3 * ROW];
+    uint32_t number = ramdulsi_check_offered(TABLE(types), TABLE(tags), TABLE(blocks), TABLE(code), TABLE(offered), verdict, choice);
+    uint32_t *own = g.blocks_words == 0 ? NULL : g.blocks;
+    memcpy(blocks, g.blocks, sizeof(blocks));
+    if (ramdulsi_fill(TABLE(types), TABLE(tags), own, g.blocks_words, TABLE(code), TABLE(offered), again, chosen) != number
+        || memcmp(verdict, again, sizeof(again)) != 0 || memcmp(choice, chosen, sizeof(chosen)) != 0) {
+        printf("ramdulsi_fill answers otherwise\n");
+    }
+    printf("offered, %s, choice %" PRIu32 " %" PRIu32 " %" PRIu32 ", %" PRIu32 " asked, ",
+           memcmp(blocks, g.blocks, sizeof(blocks)) == 0 ? "table kept" : "table filled", choice[0], choice[1], choice[2], verdict[2]);
     show(what, number, verdict[0], verdict[1]);
 }
 
@@ -157,6 +178,38 @@ static void over_code(one_call *call)
     WITH("a branch whose edges are both met", g.code[3] = ramdulsi_code_if_equal(1, 0, 1));
 }
 
+/* Rows left blank, by their number; block 1 has need of the second offered row, and so has block 0, which leads to it. */
+static void leave_blank(struct given *g, uint32_t row)
+{
+    ramdulsi_row_of_blank(g->blocks + row * ROW, g->blocks[row * ROW]);
+}
+
+static void over_blanks(one_call *call)
+{
+    WITH("block 1 blank", leave_blank(&g, 1));
+    WITH("blocks 1 and 2 blank", (leave_blank(&g, 1), leave_blank(&g, 2)));
+    WITH("all blocks blank", (leave_blank(&g, 0), leave_blank(&g, 1), leave_blank(&g, 2)));
+    WITH("no block blank, and a list of no whole rows", g.offered_words = 1);
+    WITH("block 1 blank, and block 2's r7 too", (leave_blank(&g, 1), g.blocks[2 * ROW + 8] = RAMDULSI_BLANK_WORD));
+    WITH("block 1 blank, and a list of no whole rows", (leave_blank(&g, 1), g.offered_words = OFFER + 1));
+    WITH("block 1 blank, and a list of nine rows", (leave_blank(&g, 1), g.offered_words = 9 * OFFER));
+    WITH("block 1 blank, and the second row marked", (leave_blank(&g, 1), g.offered[OFFER] = ramdulsi_type_locked(ramdulsi_type_any())));
+    WITH("block 1 blank, and nothing offered", (leave_blank(&g, 1), g.offered_words = 0));
+    WITH("block 1 blank, and its row not offered", (leave_blank(&g, 1), g.offered_words = OFFER));
+    WITH("block 2 blank, and an unknown opcode in block 1", (leave_blank(&g, 2), g.code[2] = RAMDULSI_NO_WORD));
+}
+
+/* Four blocks that halt, all of them blank. */
+static void four_blank(void)
+{
+    uint32_t types[ROW] = {1}, blocks[4 * ROW], code[4] = {0}, verdict[3], choice[3], number, k;
+    for (k = 0; k < 4; k++) {
+        ramdulsi_row_of_blank(blocks + k * ROW, 1);
+    }
+    number = ramdulsi_check_offered(types, ROW, NULL, 0, blocks, 4 * ROW, code, 4, NULL, 0, verdict, choice);
+    show("offered, four blocks blank", number, verdict[0], verdict[1]);
+}
+
 static void runs(void)
 {
     one_call *call = run;
@@ -174,6 +227,8 @@ static void runs(void)
 int main(void)
 {
     over_types(check), over_blocks(check), over_annotations(check), over_form(check), over_code(check);
+    over_types(offered), over_blocks(offered), over_annotations(offered), over_form(offered), over_code(offered), over_blanks(offered);
+    four_blank();
     over_types(memory), over_memory(memory);
     over_types(entry), over_memory(entry), over_blocks(entry), over_annotations(entry);
     one_call *call = entry;

@@ -49,6 +49,27 @@ static void *check(void *given)
     return NULL;
 }
 
+/* Three rows are left blank, and of eight that are offered the last alone is what they were: every choice before it is looked at. */
+static uint32_t offered[RAMDULSI_LIMIT_OFFERED][RAMDULSI_LIMIT_OFFERED_WORDS];
+
+static void *check_offered(void *given)
+{
+    uint32_t verdict[3], choice[3];
+    offered[RAMDULSI_LIMIT_OFFERED - 1][0] = ramdulsi_type_ref(0);
+    for (uint32_t k = 0; k < RAMDULSI_LIMIT_BLANKS; k++)
+        ramdulsi_row_of_blank(blocks[k * 127], LENGTH);
+    *(uint32_t *)given = ramdulsi_check_offered(ROWS(types), WORDS(tags), ROWS(blocks), WORDS(code), ROWS(offered), verdict, choice);
+    return NULL;
+}
+
+/* The same rows, which are whole after it. */
+static void *fill_rows(void *given)
+{
+    uint32_t verdict[3], choice[3];
+    *(uint32_t *)given = ramdulsi_fill(ROWS(types), WORDS(tags), ROWS(blocks), WORDS(code), ROWS(offered), verdict, choice);
+    return NULL;
+}
+
 static void *memory_check(void *given)
 {
     uint32_t place[2];
@@ -95,7 +116,8 @@ static int on_stack(const char *name, void *(*call)(void *), size_t bytes)
 int main(void)
 {
     fill();
-    return on_stack("check", check, RAMDULSI_STACK) || on_stack("run", run, RAMDULSI_STACK)
+    return on_stack("check", check, RAMDULSI_STACK) || on_stack("check with offered rows", check_offered, RAMDULSI_STACK)
+        || on_stack("fill", fill_rows, RAMDULSI_STACK) || on_stack("run", run, RAMDULSI_STACK)
         || on_stack("memory check", memory_check, RAMDULSI_STACK_CHECKING_MEMORY)
         || on_stack("entry check", entry_check, RAMDULSI_STACK_CHECKING_MEMORY);
 }

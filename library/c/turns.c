@@ -1,4 +1,6 @@
-/* Checks three routines, queues them by what their checks cost, and lets them take turns over two plots, block by block. */
+/* Checks three routines, one of which has rows chosen for annotations that it lacks, queues them by what their checks cost, and lets them
+ * take turns over two plots, block by block.
+ */
 #include <inttypes.h>
 #include <stdio.h>
 #include <stdlib.h>
@@ -101,14 +103,12 @@ static void write_correction(struct routine *r)
     keep(r, BLOCKS, WORDS(code));
 }
 
-/* r1 is the plot, r3 its pointer; r4 gets the weight. */
+/* r1 is the plot, r3 its pointer; r4 gets the weight. It is an older routine: what its last two blocks want was not written down. */
 static void write_ranking(struct routine *r)
 {
     const uint32_t any = ramdulsi_type_any();
     const uint32_t at_start[8] = {any, ramdulsi_type_ref(PLOT), any, any, any, any, any, any};
     const uint32_t nothing[8] = {any, any, any, any, any, any, any, any};
-    const uint32_t pointed[8] = {any, any, any, ramdulsi_type_tagged(ramdulsi_of_constant(1)), any, any, any, any};
-    const uint32_t work[8] = {any, any, any, ramdulsi_type_ref(CORRECTED), any, any, any, any};
     const uint32_t code[] = {
         /* START: a corrected plot goes on */
         ramdulsi_code_load(2, 1, STAGE),
@@ -123,8 +123,8 @@ static void write_ranking(struct routine *r)
         ramdulsi_code_halt()};
     ramdulsi_row_of_block(r->blocks[START], 3, at_start);
     ramdulsi_row_of_block(r->blocks[PASS_OVER], 1, nothing);
-    ramdulsi_row_of_block(r->blocks[POINTED], 1, pointed);
-    ramdulsi_row_of_block(r->blocks[WORK], 2, work);
+    ramdulsi_row_of_blank(r->blocks[POINTED], 1);
+    ramdulsi_row_of_blank(r->blocks[WORK], 2);
     keep(r, BLOCKS, WORDS(code));
 }
 
@@ -146,6 +146,23 @@ static void must(const char *what, const char *name, uint32_t number, const uint
     if (number != RAMDULSI_ANSWER_PASSED) {
         exit(1);
     }
+}
+
+/* Offers rows that routines over plots often want, of r3 alone: a raw record, a pointer to one that may be 0, and the same of a corrected
+ * record. Where several would do, the first of them is taken.
+ */
+static void fill(struct routine *r)
+{
+    const uint32_t at_r3[] = {ramdulsi_type_ref(RAW), ramdulsi_type_tagged(ramdulsi_of_constant(0)),
+                              ramdulsi_type_ref(CORRECTED), ramdulsi_type_tagged(ramdulsi_of_constant(1))};
+    uint32_t offered[4][RAMDULSI_LIMIT_OFFERED_WORDS] = {{0}};
+    uint32_t verdict[3], choice[3], number;
+    for (size_t k = 0; k < 4; k++) {
+        offered[k][3] = at_r3[k];
+    }
+    number = ramdulsi_fill(ROWS(types), WORDS(tags), TABLES(r), ROWS(offered), verdict, choice);
+    must("rows chosen for the ", r->name, number, verdict);
+    printf("%s: block %d takes row %" PRIu32 ", block %d row %" PRIu32 "\n", r->name, POINTED, choice[0], WORK, choice[1]);
 }
 
 static void check(struct routine *r)
@@ -218,6 +235,8 @@ int main(void)
     ranking.registers[1] = SECOND_PLOT;
     withdrawal.registers[1] = FIRST_PLOT;
 
+    /* from here on the ranking's table is whole, and every call takes it */
+    fill(&ranking);
     for (size_t k = 0; k < count; k++) {
         check(queue[k]);
     }

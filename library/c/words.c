@@ -111,6 +111,8 @@ static void rows(void)
     show_row("ramdulsi_row_of_type, 9 fields", row, 9);
     ramdulsi_row_of_block(row, 32, eight);
     show_row("ramdulsi_row_of_block", row, 9);
+    ramdulsi_row_of_blank(row, 31);
+    show_row("ramdulsi_row_of_blank", row, 9);
     ramdulsi_row_of_allocation(row, 16383, 63);
     show_row("ramdulsi_row_of_allocation", row, 2);
 }

@@ -1,17 +1,19 @@
-/* Ramdulsi for C and C++: the four calls, the words that their tables are made of, and the numbers that they answer.
+/* Ramdulsi for C and C++: the six calls, the words that their tables are made of, and the numbers that they answer.
  *
  * To write routines read docs/MACHINE.md: how a routine is checked, with a tutorial in section 7. To see what an answer means, put the
  * request to the program as `ramdulsi --words`, which answers in words too; docs/REFUSALS.md has them all, with the usual causes. For
  * messages of your own, ramdulsi_name_of_check and ramdulsi_name_of_run give an answer's name.
  *
- * A table is a pointer to 32-bit words and their number. A call writes no table but a run its memory, and no call keeps a pointer.
+ * A table is a pointer to 32-bit words and their number. A call writes no table but a run its memory and ramdulsi_fill its blocks, and no
+ * call keeps a pointer.
  *   Lengths    Each argument that ends in _words is a number of words, not of rows: types_words is 9 times the number of types,
- *              blocks_words 9 times the number of blocks, allocations_words 2 times the number of records.
+ *              blocks_words 9 times the number of blocks, allocations_words 2 times the number of records, offered_words 8 times the
+ *              number of offered rows.
  *   Pointers   A table's pointer (memory is one) may be null where its number of words is 0; the call answers as for any table of that
- *              length. The pointers verdict, place, answer and registers must not be null, and have the words that the call's comment
- *              names. Every other pointer is to as many words as the number beside it says, on the boundary of a uint32_t.
- *   Overlap    Words that a call writes (a run's memory and registers, verdict, place, answer) must not be those behind another of its
- *              pointers.
+ *              length. The pointers verdict, choice, place, answer and registers must not be null, and have the words that the call's
+ *              comment names. Every other pointer is to as many words as the number beside it says, on the boundary of a uint32_t.
+ *   Overlap    Words that a call writes (a run's memory and registers, the blocks of ramdulsi_fill, verdict, choice, place, answer) must
+ *              not be those behind another of its pointers.
  *   Stack      A call needs RAMDULSI_STACK or RAMDULSI_STACK_CHECKING_MEMORY bytes, the caller's own frames beside them.
  *   Threads    No call has state, so calls on different memory may be made at the same time.
  *   Budgets    A routine may go round for ever, and a run ends only by a halt, a refusal or its budget: such a routine with a budget of
@@ -59,13 +61,13 @@ extern "C" {
 #endif
 
 /* The version of this header, and of the archive that it comes with. */
-#define RAMDULSI_VERSION "0.6.0"
+#define RAMDULSI_VERSION "0.7.0"
 #define RAMDULSI_VERSION_MAJOR 0
-#define RAMDULSI_VERSION_MINOR 6
+#define RAMDULSI_VERSION_MINOR 7
 #define RAMDULSI_VERSION_PATCH 0
 
-/* Bytes of stack that a thread needs for ramdulsi_check and ramdulsi_run, and for ramdulsi_memory_check and ramdulsi_entry_check, which
- * keep a table of 64 KiB there.
+/* Bytes of stack that a thread needs for ramdulsi_check, ramdulsi_check_offered, ramdulsi_fill and ramdulsi_run, and for
+ * ramdulsi_memory_check and ramdulsi_entry_check, which keep a table of 64 KiB there.
  */
 #define RAMDULSI_STACK 16384u
 #define RAMDULSI_STACK_CHECKING_MEMORY 81920u
@@ -102,6 +104,9 @@ extern "C" {
 /* no call answers 22, and none will */
 /* refusal of a store to a locked field */
 #define RAMDULSI_ANSWER_LOCKED_FIELD 23u
+/* refusals where annotations are left blank: over what may be blank and what is offered, and since no choice is accepted */
+#define RAMDULSI_ANSWER_OFFERED_ROWS 32u
+#define RAMDULSI_ANSWER_NO_CHOICE 33u
 /* a run's budget is finished, and the routine goes on */
 #define RAMDULSI_ANSWER_PAUSED 40u
 
@@ -132,6 +137,8 @@ static inline const char *ramdulsi_name_of_check(uint32_t number)
     case RAMDULSI_ANSWER_FIELD: return "field";
     case RAMDULSI_ANSWER_REGISTER: return "register";
     case RAMDULSI_ANSWER_LOCKED_FIELD: return "locked field";
+    case RAMDULSI_ANSWER_OFFERED_ROWS: return "offered rows";
+    case RAMDULSI_ANSWER_NO_CHOICE: return "no choice";
     case RAMDULSI_ANSWER_PAUSED: return "paused";
     default: return "unknown";
     }
@@ -148,12 +155,16 @@ static inline const char *ramdulsi_name_of_run(uint32_t number)
 #define RAMDULSI_LIMIT_ROW_WORDS 9u
 #define RAMDULSI_LIMIT_TYPE_WORDS 8u
 #define RAMDULSI_LIMIT_ALLOCATION_WORDS 2u
+#define RAMDULSI_LIMIT_OFFERED_WORDS 8u
 #define RAMDULSI_LIMIT_TYPES 64u
 #define RAMDULSI_LIMIT_TAGS 64u
 #define RAMDULSI_LIMIT_BLOCKS 256u
 #define RAMDULSI_LIMIT_CODE 8192u
 #define RAMDULSI_LIMIT_ALLOCATIONS 4096u
 #define RAMDULSI_LIMIT_MEMORY 16384u
+#define RAMDULSI_LIMIT_OFFERED 8u
+/* the most rows of the block table whose annotation may be left blank */
+#define RAMDULSI_LIMIT_BLANKS 3u
 #define RAMDULSI_LIMIT_FIELDS 8u
 #define RAMDULSI_LIMIT_BLOCK_LENGTH 32u
 /* the least address that a record may start at, as 0 stands for no record */
@@ -200,9 +211,13 @@ static inline const char *ramdulsi_name_of_run(uint32_t number)
  *
  * A function that is given a part too large for its bits returns RAMDULSI_NO_WORD. It is neither a type word nor an instruction nor a
  * dependency, and ramdulsi_check refuses tables that have it: a part cut off could make a word that passes, and means something else. A
- * part that fits may still be wrong, as a record type that is not in the table; that is for the checks to say.
+ * part that fits may still be wrong, as a record type that is not in the table; that is for the checks to say. To ramdulsi_check_offered
+ * and ramdulsi_fill alone, a block's row with this word in all eight places is one left blank; with it in fewer it is refused there too.
  */
 #define RAMDULSI_NO_WORD 0xffffffffu
+
+/* Each of the eight type words of a row whose annotation is left blank, for ramdulsi_check_offered and ramdulsi_fill. */
+#define RAMDULSI_BLANK_WORD 4294967295u
 
 /* What a type depends on: a field of the same record (in a record type), a register (in an annotation), or a constant, 0 to 247. */
 static inline uint32_t ramdulsi_of_field(uint32_t field)
@@ -308,6 +323,16 @@ static inline void ramdulsi_row_of_block(uint32_t row[9], uint32_t length, const
     row[0] = length;
     for (k = 0; k < RAMDULSI_LIMIT_TYPE_WORDS; k++) {
         row[1u + k] = registers[k];
+    }
+}
+
+/* Fills a row of the block table whose annotation is left blank: the number of instructions, 1 to 32, and eight blank words. */
+static inline void ramdulsi_row_of_blank(uint32_t row[9], uint32_t length)
+{
+    uint32_t k;
+    row[0] = length;
+    for (k = 0; k < RAMDULSI_LIMIT_TYPE_WORDS; k++) {
+        row[1u + k] = RAMDULSI_BLANK_WORD;
     }
 }
 
@@ -446,6 +471,39 @@ static inline uint32_t ramdulsi_code_if_less(uint32_t a, uint32_t b, uint32_t bl
 uint32_t ramdulsi_check(const uint32_t *types, size_t types_words, const uint32_t *tags, size_t tags_words,
                         const uint32_t *blocks, size_t blocks_words, const uint32_t *code, size_t code_words,
                         uint32_t verdict[3]);
+
+/* The same where annotations may be left blank: whether the routine is accepted with rows of a list in their places, and with which.
+ *   types, tags, code  as above
+ *   blocks   1 to 256 rows of 9 words: length, then the type words of r0 to r7, or eight times RAMDULSI_BLANK_WORD in up to 3 rows
+ *   offered  0 to 8 rows of 8 words: the type words of r0 to r7. Each row may be chosen for several blocks. Where no row of blocks is
+ *            blank, the list is not looked at, whatever its length, and the answer is that of ramdulsi_check
+ *   verdict  3 words: two for the place of the answer, and the number of fit questions. The place:
+ *     1 to 5    as in ramdulsi_check
+ *     6         row of blocks, 0; blank rows are passed over, and one that is blank in fewer than eight words is not blank
+ *     32        the fourth blank block, 0; where there is none, 0, 0 for a list that is no whole rows or too long; else the first row of
+ *               offered that 6 would refuse in blocks, 0. A blank row and one with the mark of a locked field are such
+ *     33        the lowest blank block, 0: no choice is accepted, or nothing is offered
+ *     7 to 15, 23
+ *               as in ramdulsi_check, only where no row is blank: with blank rows what they refuse is one choice
+ *     0         0, 0: accepted
+ *   choice   3 words, filled with the rows of offered that were chosen, counted from 0: for the lowest blank block, the next and the third;
+ *            0 where there is no such block, and 0 0 0 in a refusal
+ * A choice is accepted if ramdulsi_check accepts the routine with the chosen rows in the blank ones' places. Of the choices that are, the
+ * answer is the one with the first row for the lowest blank block; of those with the same, the one with the first for the next, and so on.
+ * The number of fit questions is what ramdulsi_check gives for the chosen rows, or for the table where no row is blank: what other choices
+ * took is not counted. It is 0 where the answer is 1 to 6, 32 or 33.
+ */
+uint32_t ramdulsi_check_offered(const uint32_t *types, size_t types_words, const uint32_t *tags, size_t tags_words,
+                                const uint32_t *blocks, size_t blocks_words, const uint32_t *code, size_t code_words,
+                                const uint32_t *offered, size_t offered_words, uint32_t verdict[3], uint32_t choice[3]);
+
+/* The same, and where it returns 0 it has laid the chosen rows into the blank ones of blocks, eight words each; a table without a blank row
+ * stays as it is. Where it refuses it has written nothing there. Hand the filled table to every other call: to ramdulsi_check and
+ * ramdulsi_entry_check a blank row is refused by 6, and a run looks at no annotation.
+ */
+uint32_t ramdulsi_fill(const uint32_t *types, size_t types_words, const uint32_t *tags, size_t tags_words,
+                       uint32_t *blocks, size_t blocks_words, const uint32_t *code, size_t code_words,
+                       const uint32_t *offered, size_t offered_words, uint32_t verdict[3], uint32_t choice[3]);
 
 /* Whether every field of every allocated record meets its meaning.
  *   types, tags  as above

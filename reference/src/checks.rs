@@ -4,6 +4,7 @@ use crate::machine::{form, parts, q17};
 use crate::reading::Reading;
 use crate::tables::*;
 use crate::{no, verdict, Asked, Verdict};
+use std::ops::Range;
 
 // ---- the check
 
@@ -88,14 +89,16 @@ fn block_end(r: Routine, reading: &mut Reading, b: usize, index: usize, asked: &
     Ok(())
 }
 
-fn judge(types: Types, r: Routine, asked: &mut u32) -> Asked {
-    let mut reading = Reading::new(types);
-    let mut index = 0;
-    for b in 0..r.count() {
+/// Q7 to Q15 of blocks that follow each other, the first of which begins at a code index. A whole check and that of one block are the same
+/// function, so that its loops are compiled once, and as one.
+#[inline(never)]
+pub fn judge(r: Routine, reading: &mut Reading, blocks: Range<usize>, start: usize, asked: &mut u32) -> Asked {
+    let mut index = start;
+    for b in blocks {
         reading.enter(r.annotation(b));
         let end = index + r.long(b);
         while index < end {
-            instruction(r, &mut reading, b, index, index + 1 == end, asked)?;
+            instruction(r, reading, b, index, index + 1 == end, asked)?;
             index += 1;
         }
     }
@@ -110,13 +113,106 @@ fn check_asked(types: &[u32], tags: &[u32], blocks: &[u32], code: &[u32], asked:
     q2_to_q4(ts)?;
     q5(r)?;
     q6(ts, r)?;
-    judge(ts, r, asked)
+    judge(r, &mut Reading::new(ts), 0..r.count(), 0, asked)
 }
 
 pub fn check(types: &[u32], tags: &[u32], blocks: &[u32], code: &[u32]) -> CheckAnswer {
     let mut asked = 0;
     let Verdict { number, first, second } = verdict(check_asked(types, tags, blocks, code, &mut asked));
     CheckAnswer { number, first, second, asked }
+}
+
+// ---- the check with an offered list
+
+/// What the check of a routine answers whose table may have blank rows: as [`CheckAnswer`], and the places in the offered list of the rows
+/// chosen for the blank blocks, the lowest block's first; 0 for a blank block that there is not, and in a refusal.
+#[derive(Clone, Copy, Debug, PartialEq, Eq)]
+pub struct OfferedAnswer {
+    pub number: u32,
+    pub first: u32,
+    pub second: u32,
+    pub asked: u32,
+    pub choice: [u32; BLANKS],
+}
+
+impl OfferedAnswer {
+    pub fn new(a: CheckAnswer, choice: [u32; BLANKS]) -> Self {
+        OfferedAnswer { number: a.number, first: a.first, second: a.second, asked: a.asked, choice }
+    }
+
+    /// A refusal before any choice is judged, or since none is accepted: 'Card 9's count is .. 0 under 33'.
+    pub fn refused(Verdict { number, first, second }: Verdict) -> Self {
+        OfferedAnswer { number, first, second, asked: 0, choice: [0; BLANKS] }
+    }
+}
+
+/// The questions before the choice, of a table with blank rows.
+pub fn before_choice(types: &[u32], tags: &[u32], blocks: &[u32], code: &[u32], offered: &[u32]) -> Asked {
+    q1_types(types, tags)?;
+    q1_code(blocks, code)?;
+    let ts = Types { rows: types, tags };
+    let r = Routine { rows: blocks, code };
+    q2_to_q4(ts)?;
+    q5(r)?;
+    q6_but_blank(ts, r)?;
+    q32(ts, &r.blanks(), offered)
+}
+
+/// The table with an offered row for each blank block.
+fn filled(blocks: &[u32], offered: &[u32], blanks: &[usize], choice: [u32; BLANKS]) -> Vec<u32> {
+    let mut blocks = blocks.to_vec();
+    lay(&mut blocks, offered, blanks, choice);
+    blocks
+}
+
+/// Lays an offered row into each blank block's.
+pub fn lay(blocks: &mut [u32], offered: &[u32], blanks: &[usize], choice: [u32; BLANKS]) {
+    for (&b, k) in blanks.iter().zip(choice) {
+        blocks[b * 9 + 1..b * 9 + 9].copy_from_slice(&offered[k as usize * 8..][..8]);
+    }
+}
+
+/// The choice of so many places below a limit that comes next, the last place counting least; none after the last.
+fn next(mut choice: [u32; BLANKS], count: usize, limit: usize) -> Option<[u32; BLANKS]> {
+    for k in (0..count).rev() {
+        choice[k] += 1;
+        if (choice[k] as usize) < limit {
+            return Some(choice);
+        }
+        choice[k] = 0;
+    }
+    None
+}
+
+pub fn check_offered(types: &[u32], tags: &[u32], blocks: &[u32], code: &[u32], offered: &[u32]) -> OfferedAnswer {
+    let blanks = Routine { rows: blocks, code }.blanks();
+    if blanks.is_empty() {
+        // 'A table with no blank row is judged as before, the list unread'
+        return OfferedAnswer::new(check(types, tags, blocks, code), [0; BLANKS]);
+    }
+    if let Err(no) = before_choice(types, tags, blocks, code, offered) {
+        return OfferedAnswer::refused(no);
+    }
+    // 'first by the lowest blank block's list place, then the next'
+    let mut choice = (!offered.is_empty()).then_some([0; BLANKS]);
+    while let Some(places) = choice {
+        let a = check(types, tags, &filled(blocks, offered, &blanks, places), code);
+        if a.number == 0 {
+            return OfferedAnswer::new(a, places);
+        }
+        choice = next(places, blanks.len(), offered.len() / 8);
+    }
+    OfferedAnswer::refused(Verdict { number: 33, first: blanks[0] as u32, second: 0 })
+}
+
+/// The same, with the chosen rows laid into the table of a routine that is accepted: 'every other call takes the filled table'.
+pub fn fill(types: &[u32], tags: &[u32], blocks: &mut [u32], code: &[u32], offered: &[u32]) -> OfferedAnswer {
+    let a = check_offered(types, tags, blocks, code, offered);
+    if a.number == 0 {
+        let blanks = Routine { rows: blocks, code }.blanks();
+        lay(blocks, offered, &blanks, a.choice);
+    }
+    a
 }
 
 // ---- allocations and meanings

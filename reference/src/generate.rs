@@ -56,6 +56,7 @@ pub struct Case {
     pub memory: Vec<u32>,
     pub blocks: Vec<u32>,
     pub code: Vec<u32>,
+    pub offered: Vec<u32>,
     pub block: u32,
     pub registers: [u32; 8],
     pub budget: u64,
@@ -538,6 +539,56 @@ pub fn another(r: &mut Random, first: &Case) -> Case {
     c
 }
 
+/// An annotation to offer beside those that were there: of another block, a random one, or nothing known at all.
+fn other_offer(r: &mut Random, c: &Case) -> Vec<u32> {
+    let blocks = c.blocks.len() / 9;
+    match r.below(3) {
+        0 if blocks > 0 => c.blocks[r.below(blocks) * 9 + 1..][..8].to_vec(),
+        1 => vec![0; 8],
+        _ => (0..8).map(|_| any_type(r, c.types.len() / 9, 8)).collect(),
+    }
+}
+
+/// Of an offered list, now and then: a row that must be refused, or a length.
+fn spoil(r: &mut Random, offered: &mut Vec<u32>) {
+    let rows = offered.len() / 8;
+    match r.below(24) {
+        0 => drop(offered.pop()),
+        1 => offered.push(0),
+        2 => offered.resize(8 * (OFFERED + 1), 0),
+        3 => offered.clear(),
+        4 if rows > 0 => offered[r.below(rows) * 8..][..8].fill(BLANK),
+        5 if rows > 0 => offered[r.below(rows) * 8 + r.below(8)] |= LOCKED,
+        6 if rows > 0 => offered[r.below(rows) * 8 + r.below(8)] = r.word(),
+        _ => (),
+    }
+}
+
+/// The case with one to three of its annotations left blank, now and then four, or one of them in seven words alone. They are offered among
+/// others in any order, now and then without one of them.
+pub fn leave_blank(r: &mut Random, c: &Case) -> Case {
+    let mut c = c.clone();
+    let mut places: Vec<usize> = (0..c.blocks.len() / 9).collect();
+    r.shuffle(&mut places);
+    places.truncate(if r.chance(5) { 4 } else { 1 + r.below(3) });
+    let mut rows: Vec<Vec<u32>> = places.iter().map(|b| c.blocks[b * 9 + 1..][..8].to_vec()).collect();
+    rows.truncate(if r.chance(6) { rows.len().saturating_sub(1) } else { rows.len() });
+    let most = if r.chance(8) { OFFERED } else { rows.len().max(4) };
+    for _ in 0..r.below(most - rows.len() + 1) {
+        rows.push(other_offer(r, &c));
+    }
+    r.shuffle(&mut rows);
+    c.offered = rows.concat();
+    spoil(r, &mut c.offered);
+    for b in places {
+        c.blocks[b * 9 + 1..][..8].fill(BLANK);
+        if r.chance(40) {
+            c.blocks[b * 9 + 1 + r.below(8)] = 0;
+        }
+    }
+    c
+}
+
 /// A table of random words: a few rows, none, as many as may be or one more, and now and then a part of a row.
 fn words(r: &mut Random, width: usize, most: usize) -> Vec<u32> {
     let rows = match r.below(24) {
@@ -575,6 +626,7 @@ pub fn random(r: &mut Random) -> Case {
     }
     c.blocks = words(r, 9, 256);
     let mut length = 0;
+    c.offered = if r.chance(4) { words(r, 8, OFFERED) } else { (0..8 * r.below(4)).map(|_| any_type(r, count, 8)).collect() };
     for row in c.blocks.chunks_exact_mut(9).filter(|_| good) {
         row[0] = 1 + r.below(32) as u32;
         length += row[0] as usize;
@@ -594,12 +646,12 @@ pub fn change(r: &mut Random, c: &mut Case) {
     for _ in 0..1 + r.below(3) {
         let word = r.word();
         let bit = 1 << r.below(32);
-        let which = r.below(9);
-        if which == 8 {
+        let which = r.below(10);
+        if which == 9 {
             c.block = if r.chance(2) { r.below(8) as u32 } else { word };
             continue;
         }
-        if which == 7 {
+        if which == 8 {
             c.registers[r.below(8)] = word;
             continue;
         }
@@ -609,6 +661,7 @@ pub fn change(r: &mut Random, c: &mut Case) {
             2 => &mut c.allocations,
             3 => &mut c.memory,
             4 => &mut c.blocks,
+            5 => &mut c.offered,
             _ => &mut c.code,
         };
         match r.below(12) {

@@ -1,10 +1,11 @@
 //! A hunt for a broken promise: accepted routines take turns over one memory that passed its check, and both checks are asked again
-//! after every turn, mostly of one block. What a routine's check costs is looked at whether it accepts or refuses.
+//! after every turn, mostly of one block. Some of the routines had annotations left blank, and take turns with the rows that were chosen.
+//! What a routine's check costs is looked at whether it accepts or refuses, and so is what it chooses.
 
-use crate::generate::{another, case, change, random, Case, Random};
+use crate::generate::{another, case, change, leave_blank, random, Case, Random};
 use crate::protocol::line;
-use crate::tables::Types;
-use crate::{CheckAnswer, Loader};
+use crate::tables::{Routine, Types};
+use crate::{CheckAnswer, Loader, OfferedAnswer};
 use std::fmt::Write;
 use std::ops::RangeInclusive;
 
@@ -20,6 +21,8 @@ pub struct Seen {
     pub locked: u64,
     /// fit questions that checks put, also those that refused
     pub asked: u64,
+    /// routines whose blank annotations were filled
+    pub filled: u64,
 }
 
 /// Whether c's registers meet its block's annotation over a memory.
@@ -79,12 +82,25 @@ fn turn<L: Loader>(tasks: &mut Vec<(usize, Case)>, memory: &mut [u32], i: usize,
     (!tasks.iter().all(|(_, t)| entered::<L>(t, memory))).then_some("each routine's registers fit")
 }
 
+/// Leaves annotations of a routine blank, and has rows chosen for them; where no choice is accepted, it stays as it was.
+fn refill<L: Loader>(r: &mut Random, c: &mut Case) {
+    let mut blank = leave_blank(r, c);
+    if L::fill(&blank.types, &blank.tags, &mut blank.blocks, &blank.code, &blank.offered).number == 0 {
+        *c = blank;
+    }
+}
+
 /// Lets the accepted among some routines over c's memory take turns. An error has the whole story.
 pub fn turns<L: Loader>(r: &mut Random, c: &Case, seen: &mut Seen) -> Result<(), String> {
     if !fits::<L>(c, &c.memory) {
         return Ok(());
     }
     let mut tasks = vec![c.clone(), another(r, c), another(r, c)];
+    for t in &mut tasks {
+        if r.chance(3) {
+            refill::<L>(r, t);
+        }
+    }
     tasks.retain(|t| L::check(&t.types, &t.tags, &t.blocks, &t.code).number == 0 && entered::<L>(t, &t.memory));
     seen.routines += tasks.len() as u64;
     let start: String = tasks.iter().map(|t| line("check", t) + "\n" + &line("entry", t) + "\n").collect();
@@ -159,6 +175,47 @@ pub fn costs<L: Loader>(r: &mut Random, c: &Case, seen: &mut Seen) -> Result<(),
         change(r, &mut c);
     }
     cost::<L>(&random(r), seen)
+}
+
+/// Whether all rows of one block table that are blank in another are offered.
+fn offers(c: &Case, blank: &Case) -> bool {
+    let (own, left) = (Routine { rows: &c.blocks, code: &c.code }, Routine { rows: &blank.blocks, code: &blank.code });
+    left.blanks().iter().all(|&b| blank.offered.chunks_exact(8).any(|row| row == own.annotation(b)))
+}
+
+/// What a choice for a case's blank rows breaks, if anything; `blocks` is the table as filling left it.
+fn chosen_wrong<L: Loader>(c: &Case, a: OfferedAnswer, blocks: &[u32]) -> Option<&'static str> {
+    let blanks = Routine { rows: &c.blocks, code: &c.code }.blanks();
+    if a.number != 0 {
+        let nothing = a.choice == [0; 3] && blocks == c.blocks;
+        return (!nothing).then_some("a refusal chooses nothing and fills nothing");
+    }
+    let mut rows = c.blocks.clone();
+    for (&b, k) in blanks.iter().zip(a.choice) {
+        rows[b * 9 + 1..][..8].copy_from_slice(&c.offered[k as usize * 8..][..8]);
+    }
+    if rows != blocks {
+        return Some("the filled table has the chosen rows, and else its own");
+    }
+    let filled = L::check(&c.types, &c.tags, blocks, &c.code);
+    ((filled.number, filled.asked) != (0, a.asked)).then_some("the filled table is accepted, at the same cost")
+}
+
+/// Looks at what is chosen for a case whose annotations were partly left blank.
+pub fn choice<L: Loader>(r: &mut Random, c: &Case, seen: &mut Seen) -> Result<(), String> {
+    let blank = leave_blank(r, c);
+    let mut blocks = blank.blocks.clone();
+    let a = L::fill(&blank.types, &blank.tags, &mut blocks, &blank.code, &blank.offered);
+    let accepted = || L::check(&c.types, &c.tags, &c.blocks, &c.code).number == 0;
+    let broken = match chosen_wrong::<L>(&blank, a, &blocks) {
+        None if a.number == 33 && offers(c, &blank) && accepted() => "rows that make a routine accepted are found where they are offered",
+        None => {
+            seen.filled += u64::from(blocks != blank.blocks);
+            return Ok(());
+        }
+        Some(broken) => broken,
+    };
+    Err(format!("broken: {broken}\n{}\n{a:?}", line("check", &blank)))
 }
 
 /// The case that a seed and a number give, and the random numbers that go on from there.

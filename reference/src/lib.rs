@@ -31,13 +31,15 @@ pub fn verdict(asked: Asked) -> Verdict {
     asked.err().unwrap_or(PASSED)
 }
 
-pub use checks::{check, entry_check, memory_check, CheckAnswer};
+pub use checks::{check, check_offered, entry_check, fill, memory_check, CheckAnswer, OfferedAnswer};
 pub use machine::{run, RunAnswer};
 
-/// The four calls, so that one test can be put to more than one implementation.
+/// The six calls, so that one test can be put to more than one implementation.
 #[allow(clippy::too_many_arguments)]
 pub trait Loader {
     fn check(types: &[u32], tags: &[u32], blocks: &[u32], code: &[u32]) -> CheckAnswer;
+    fn check_offered(types: &[u32], tags: &[u32], blocks: &[u32], code: &[u32], offered: &[u32]) -> OfferedAnswer;
+    fn fill(types: &[u32], tags: &[u32], blocks: &mut [u32], code: &[u32], offered: &[u32]) -> OfferedAnswer;
     fn memory_check(types: &[u32], tags: &[u32], allocations: &[u32], memory: &[u32]) -> Verdict;
     fn entry_check(
         types: &[u32],
@@ -58,6 +60,14 @@ pub struct Plain;
 impl Loader for Plain {
     fn check(types: &[u32], tags: &[u32], blocks: &[u32], code: &[u32]) -> CheckAnswer {
         check(types, tags, blocks, code)
+    }
+
+    fn check_offered(types: &[u32], tags: &[u32], blocks: &[u32], code: &[u32], offered: &[u32]) -> OfferedAnswer {
+        check_offered(types, tags, blocks, code, offered)
+    }
+
+    fn fill(types: &[u32], tags: &[u32], blocks: &mut [u32], code: &[u32], offered: &[u32]) -> OfferedAnswer {
+        fill(types, tags, blocks, code, offered)
     }
 
     fn memory_check(types: &[u32], tags: &[u32], allocations: &[u32], memory: &[u32]) -> Verdict {

@@ -1,7 +1,7 @@
 //! Requests and answers of the line protocol.
 
 use crate::generate::Case;
-use crate::{CheckAnswer, Loader, Plain, RunAnswer, Verdict};
+use crate::{Loader, OfferedAnswer, Plain, RunAnswer, Verdict};
 use std::fmt::{self, Write as _};
 use std::io::{self, BufRead, Write};
 
@@ -127,7 +127,7 @@ pub fn read(line: &[u8]) -> Result<(&'static str, Case), usize> {
     let request = t.request()?;
     let mut c = Case::default();
     match request {
-        "check" => (c.types, c.tags, c.blocks, c.code) = (t.table()?, t.table()?, t.table()?, t.table()?),
+        "check" => (c.types, c.tags, c.blocks, c.code, c.offered) = (t.table()?, t.table()?, t.table()?, t.table()?, t.table()?),
         "memory" => (c.types, c.tags, c.allocations, c.memory) = (t.table()?, t.table()?, t.table()?, t.table()?),
         "entry" => {
             (c.types, c.tags, c.allocations, c.memory) = (t.table()?, t.table()?, t.table()?, t.table()?);
@@ -155,7 +155,7 @@ pub fn line(request: &str, c: &Case) -> String {
     let table = |t: &[u32]| format!(" {}{}", t.len(), list(t));
     let tables = |all: &[&[u32]]| all.iter().map(|t| table(t)).collect::<String>();
     match request {
-        "check" => format!("check{}", tables(&[&c.types, &c.tags, &c.blocks, &c.code])),
+        "check" => format!("check{}", tables(&[&c.types, &c.tags, &c.blocks, &c.code, &c.offered])),
         "memory" => format!("memory{}", tables(&[&c.types, &c.tags, &c.allocations, &c.memory])),
         "entry" => {
             let all = tables(&[&c.types, &c.tags, &c.allocations, &c.memory, &c.blocks, &c.code]);
@@ -168,7 +168,7 @@ pub fn line(request: &str, c: &Case) -> String {
 /// What a call gives: the answer of a routine's check, the verdict of another check, or a run's answer with the memory that it leaves.
 #[derive(Debug, PartialEq, Eq)]
 pub enum Answer {
-    Checked(CheckAnswer),
+    Checked(OfferedAnswer),
     Verdict(Verdict),
     Ran(RunAnswer, Vec<u32>),
 }
@@ -187,7 +187,7 @@ impl Answer {
 impl fmt::Display for Answer {
     fn fmt(&self, f: &mut fmt::Formatter) -> fmt::Result {
         match self {
-            Answer::Checked(a) => write!(f, "{} {} {} {}", a.number, a.first, a.second, a.asked),
+            Answer::Checked(a) => write!(f, "{} {} {} {}{}", a.number, a.first, a.second, a.asked, list(&a.choice)),
             Answer::Verdict(v) => write!(f, "{} {} {}", v.number, v.first, v.second),
             Answer::Ran(RunAnswer { number, block, index, finished, registers }, memory) => {
                 write!(f, "{number} {block} {index} {finished}{} {}{}", list(registers), memory.len(), list(memory))
@@ -198,7 +198,7 @@ impl fmt::Display for Answer {
 
 pub fn answer<L: Loader>(request: &str, c: &Case) -> Answer {
     match request {
-        "check" => Answer::Checked(L::check(&c.types, &c.tags, &c.blocks, &c.code)),
+        "check" => Answer::Checked(L::check_offered(&c.types, &c.tags, &c.blocks, &c.code, &c.offered)),
         "memory" => Answer::Verdict(L::memory_check(&c.types, &c.tags, &c.allocations, &c.memory)),
         "entry" => Answer::Verdict(L::entry_check(&c.types, &c.tags, &c.allocations, &c.memory, &c.blocks, &c.code, c.block, c.registers)),
         _ => {

@@ -15,6 +15,13 @@ pub const IN: u32 = 8;
 /// 'Bit 31 of a record's type word now marks a field locked'.
 pub const LOCKED: u32 = 1 << 31;
 
+/// 'Up to 3 rows may have all eight type words 4,294,967,295'.
+pub const BLANKS: usize = 3;
+pub const BLANK: u32 = u32::MAX;
+
+/// 'a second list offers 0 to 8 annotation rows of eight words'.
+pub const OFFERED: usize = 8;
+
 /// 'the remaining seven bits of that byte are the kind'.
 pub fn kind(w: u32) -> u32 {
     w >> 24 & 127
@@ -86,6 +93,15 @@ impl<'a> Routine<'a> {
 
     pub fn annotation(&self, b: usize) -> &'a [u32] {
         &self.rows[b * 9 + 1..b * 9 + 9]
+    }
+
+    pub fn is_blank(&self, b: usize) -> bool {
+        self.annotation(b).iter().all(|&w| w == BLANK)
+    }
+
+    /// The blocks whose annotation is left blank, the lowest first.
+    pub fn blanks(&self) -> Vec<usize> {
+        (0..self.count()).filter(|&b| self.is_blank(b)).collect()
     }
 
     /// Where each block starts, and the end of the last.
@@ -181,10 +197,40 @@ pub fn q5(r: Routine) -> Asked {
     Ok(())
 }
 
+fn annotation_well_made(types: Types, row: &[u32]) -> bool {
+    row.iter().all(|&w| w & LOCKED == 0 && well_made(w, types.count(), 8))
+}
+
 pub fn q6(types: Types, r: Routine) -> Asked {
     for b in 0..r.count() {
-        if !r.annotation(b).iter().all(|&w| w & LOCKED == 0 && well_made(w, types.count(), 8)) {
+        if !annotation_well_made(types, r.annotation(b)) {
             return no(6, b, 0);
+        }
+    }
+    Ok(())
+}
+
+/// 'This check's Q6 alone skips blank rows'.
+pub fn q6_but_blank(types: Types, r: Routine) -> Asked {
+    for b in 0..r.count() {
+        if !r.is_blank(b) && !annotation_well_made(types, r.annotation(b)) {
+            return no(6, b, 0);
+        }
+    }
+    Ok(())
+}
+
+/// '32, at the fourth blank block, else at row 0 for an offered list of wrong length, else at the first offered row badly made'.
+pub fn q32(types: Types, blanks: &[usize], offered: &[u32]) -> Asked {
+    if let Some(&fourth) = blanks.get(BLANKS) {
+        return no(32, fourth, 0);
+    }
+    if offered.len() % 8 != 0 || offered.len() > 8 * OFFERED {
+        return no(32, 0, 0);
+    }
+    for (k, row) in offered.chunks_exact(8).enumerate() {
+        if !annotation_well_made(types, row) {
+            return no(32, k, 0);
         }
     }
     Ok(())

@@ -46,11 +46,11 @@ fn filled(mut line: impl FnMut(&mut Random) -> String) -> String {
 fn rows() -> [(&'static str, String); 7] {
     let numbers = |r: &mut Random| (0..8).map(|_| format!(" {}", r.draw() as u32)).collect::<String>();
     [
-        ("long tables, decimal", filled(|r| format!("check 0 0 0 {}", table(r, false)))),
-        ("long tables, hexadecimal", filled(|r| format!("check 0 0 0 {}", table(r, true)))),
+        ("long tables, decimal", filled(|r| format!("check 0 0 0 {} 0", table(r, false)))),
+        ("long tables, hexadecimal", filled(|r| format!("check 0 0 0 {} 0", table(r, true)))),
         ("long memories, written back", filled(|r| format!("run {HALT} {} 0{} 0", table(r, false), numbers(r)))),
         ("short runs", filled(|r| format!("run {HALT} 1 7 0{} 1", numbers(r)))),
-        ("small checks", filled(|_| format!("check 9 1 0 0 0 0 0 0 0 0 0 {HALT}"))),
+        ("small checks", filled(|_| format!("check 9 1 0 0 0 0 0 0 0 0 0 {HALT} 0"))),
         ("malformed lines", filled(|_| "check 9 1 0 0 0x 0 0".to_string())),
         ("comments", filled(|_| "# The smallest routine: a block that only halts, over a type with one Any field.".to_string())),
     ]

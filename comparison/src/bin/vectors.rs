@@ -1,7 +1,8 @@
-//! Puts requests of the line protocol to the proved library and to the plain one, and runs to the one written for speed as well, and
-//! compares with the right answers: `vectors REQUESTS ANSWERS ..`. Where a line is no request, the plain reader must find the same place.
+//! Puts requests of the line protocol to the proved library and to the plain one, runs to the one written for speed as well and checks to
+//! those that choose block by block, and compares with the right answers: `vectors REQUESTS ANSWERS ..`. Where a line is no request, the
+//! plain reader must find the same place.
 
-use ramdulsi_comparison::{fast, Proved};
+use ramdulsi_comparison::{choice, fast, Proved};
 use ramdulsi_reference::protocol::{answer, passed_over, read};
 use ramdulsi_reference::Plain;
 use std::fs::read_to_string;
@@ -35,8 +36,10 @@ fn answers(line: &str) -> Vec<(&'static str, String)> {
         Err(place) => return vec![("plain", format!("malformed {place}"))],
     };
     let mut all = vec![("proved", answer::<Proved>(request, &c)), ("plain", answer::<Plain>(request, &c))];
-    if request == "run" {
-        all.extend(fast::answers(&c).map(|given| ("fast", given)));
+    match request {
+        "check" => all.extend(choice::answers(&c).map(|given| ("by blocks", given))),
+        "run" => all.extend(fast::answers(&c).map(|given| ("fast", given))),
+        _ => (),
     }
     all.into_iter().map(|(name, given)| (name, given.to_string())).collect()
 }

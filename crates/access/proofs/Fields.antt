@@ -2,24 +2,24 @@
 use mathlib.Core.Path.{_≡_, refl, sym, ap, _∙_}
 use mathlib.Core.Bool.{Bool, true, false, not}
 use mathlib.Core.List.{List, [], _∷_}
-use Prim.Native.Nat.{ℕ, zero, suc, _+_, _-_, _*_, _%_, _<_, _≤_}
+use Prim.Native.Nat.{ℕ, zero, suc, _+_, _*_, _%_, _<_, _≤_}
 use native.Mathlib.Numerals.{add-one, unary-clauses}
 use native.Mathlib.Omega.{arith}
 use lib.Dec.{ltb, eqb}
-use lib.ListN.{length, getD, set, take, drop, drop-of-length-le, length-drop}
-use lib.Seq.{drop-cons, take-all}
+use lib.ListN.{length, getD, set, drop, drop-of-length-le}
+use lib.Seq.{drop-cons}
 use borrow.Author.Tests.{lt-ltb, le-ltb, eq-eqb, ne-eqb}
 use Rattle.model.specs.declared.Reference.the-variants.{To, Nothing}
 use Rattle.model.specs.Question.{_or_, provided, Question, questionOf, Refusal}
 use Rattle.model.specs.Word.{lockedOf, opcodeOf, aOf, bOf, cOf}
-use Rattle.model.specs.Table.{Tables, tablesOf, locked, headOf, wordsOf, rowOf}
+use Rattle.model.specs.Table.{Tables, tablesOf, locked, headOf, wordsOf}
 use Rattle.model.specs.Machine.{load, store, toStore}
 use Rattle.model.specs.Reading.{rowFits, Reading, laidAt, upFrom, born, putRegister, noBase, viewed, look, loaded, stored}
 use Rattle.model.specs.Check.{valueIn, withReference, referenceIn, mayTouch, permits, onRecord, readPlain}
 use Rattle.model.specs.Cost.{plainAsked}
 use Rattle.model.proofs.Logic.{byTest, byEqual}
 use Rattle.model.proofs.Lists.{map-set, getD-past}
-use Rattle.table.proofs.Laws.{row-length, words-length, head-at, tables-size, tables-words}
+use Rattle.table.proofs.Laws.{head-at, tables-size, tables-words}
 use Rattle.known.specs.Numbers.{valuesOf}
 use Rattle.known.proofs.Numbers.{frames-set}
 use Rattle.instruction.specs.Form.{plainOf, Inside}
@@ -50,17 +50,6 @@ size-past types t h = sym (head-at types t ∙ getD-past types (t * 9) 0 h)
 
 pub size-at : (types : List ℕ) (t : ℕ) → getD types (t * 9) 0 ≡ headOf types t
 size-at types t = sym (head-at types t)
-
--- the type words of a row, as a part of it
-pub part-is : (types own : List ℕ) (t : ℕ) → own ≡ rowOf types t → take (length own - 1) (drop 1 own) ≡ wordsOf types t
-part-is types own t e = rw e (take-all (length (rowOf types t) - 1) (drop 1 (rowOf types t)) (omega (arith, length-drop 1 (rowOf types t))))
-
-pub part-length : (types own : List ℕ) (t : ℕ) → t * 9 + 9 ≤ length types → own ≡ rowOf types t
-    → length (take (length own - 1) (drop 1 own)) ≡ 8
-part-length types own t h e = ap length (part-is types own t e) ∙ words-length types t h
-
-pub row-words : (types own : List ℕ) (t : ℕ) → t * 9 + 9 ≤ length types → own ≡ rowOf types t → length own ≡ 9
-row-words types own t h e = ap length e ∙ row-length types t h
 
 -- ---- looks
 

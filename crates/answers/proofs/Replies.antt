@@ -2,18 +2,20 @@
 use mathlib.Core.Path.{_≡_, refl, sym, ap, subst, _∙_}
 use mathlib.Core.Bool.{Bool, true, false, not, false≢true}
 use mathlib.Core.List.{List, [], _∷_, _++_}
-use Prim.Native.Nat.{ℕ, _+_, _≤_}
+use Prim.Native.Nat.{ℕ, _+_, _≤_, min}
 use native.Mathlib.Omega.{arith}
 use lib.Dec.{eqb}
-use lib.ListN.{take}
+use lib.ListN.{length, take}
+use lib.Seq.{take-all}
 use borrow.Author.Tests.{not-true, not-false, eqb-true, eqb-false, eq-eqb, ne-eqb}
-use Rattle.model.proofs.Logic.{byEqual, pick-true, pick-false}
+use Rattle.model.proofs.Logic.{byEqual, byLess, pick-true, pick-false}
 use Rattle.grammar.specs.Codes.{codes}
-use Rattle.protocol.specs.Text.{decimal}
+use Rattle.protocol.specs.Text.{decimal, fields}
 use Rattle.output.specs.Appended.{Appended}
 use Rattle.output.specs.Digits.{printable, allFrom}
 use Rattle.output.proofs.Decimals.{decimal-printable, all-append}
 use Rattle.output.proofs.Appending.{nothing, after, same-text}
+use Rattle.output.proofs.Fields.{fields-printable}
 use Rattle.reader.specs.declared.Line.{Line}
 use Rattle.grammar.specs.Phase.{GAP, MALFORMED}
 use Rattle.reader.specs.Reader.{Reader, reader}
@@ -23,7 +25,7 @@ use Rattle.telling.specs.Told.{Told}
 use Rattle.answers.specs.declared.Given.{Given}
 use Rattle.answers.specs.declared.Style.{Style}
 use Rattle.answers.specs.declared.Reply.{Reply}
-use Rattle.answers.specs.Answers.{Answer, costText, wordsOf, remarkText, lineNumber, outputLine, lineText}
+use Rattle.answers.specs.Answers.{Answer, costText, choiceText, wordsOf, remarkText, lineNumber, outputLine, lineText}
 use Rattle.answers.specs.Answers.{refusalRow, refused, haltedRow, unread, requestAnswer}
 use Rattle.answers.specs.Gives.{Gives, speaks, answerAt, wordsIn, Remarked, Ended, Replied}
 
@@ -89,7 +91,7 @@ module _ (l : Line) (w e n : List ℕ) where
 
   told-of : {b c : List ℕ} {m : ℕ} (g : Given) (row : List ℕ) → Gives b m (answerAt l w e n) g c
       → wordsIn g row ≡ wordsOf (answerAt l w e n) row
-  told-of g row y = rw (y .row, y .first, y .second, y .counted, y .asked)
+  told-of g row y = rw (y .row, y .first, y .second, y .counted, y .asked, y .chosen, y .choice)
 
   silent : speaks (l .phase) ≡ false → said r ≡ silence
   silent h =
@@ -155,16 +157,42 @@ uncounted counted asked out n e = same-text (sym (pick-false counted _ _ (not-tr
 pub counted-text : (counted : Bool) (asked : ℕ) → not counted ≡ false → codes "; fit questions: " ++ decimal asked ≡ costText counted asked
 counted-text counted asked e = sym (pick-true counted _ _ (not-false counted e))
 
-pub remarked : (worded : Bool) (g : Given) (before : List ℕ) (k m : ℕ) (between left : List ℕ) → not worded ≡ false
-    → Told (answerText (g .row) (g .first) (g .second)) before (g .held) k between
-    → Appended between k (costText (g .counted) (g .asked)) m left → m ≤ k + 37 → Remarked worded g before m left
-remarked worded g before k m between left h x y small =
+-- the rows of an answer
+choice-seen : (chosen : ℕ) (choice : List ℕ) → printable (choiceText chosen choice) ≡ true
+unfolding allFrom
+choice-seen chosen choice =
+    byEqual chosen 0
+    (λ e. rw (eq-eqb chosen 0 e))
+    (λ e. rw (ne-eqb chosen 0 e) (all-append 32 126 (codes "; rows chosen:") (fields (take chosen choice)) refl (fields-printable (take chosen choice))))
+
+pub unchosen : (chosen : ℕ) (choice out : List ℕ) (n : ℕ) → chosen ≡ 0 → Appended out n (choiceText chosen choice) n out
+unchosen chosen choice out n e = same-text (sym (pick-true _ _ _ (eq-eqb chosen 0 e))) (nothing out n)
+
+pub chosen-text : (chosen few : ℕ) (choice : List ℕ) → (chosen ≡ 0 → ⊥) → 3 ≡ length choice → few ≡ min chosen 3
+    → codes "; rows chosen:" ++ fields (take few choice) ≡ choiceText chosen choice
+chosen-text chosen few choice e three f =
+    ap (λ l. codes "; rows chosen:" ++ fields l) same ∙ sym (pick-false _ _ _ (ne-eqb chosen 0 e))
+  where
+    same : take few choice ≡ take chosen choice
+    same =
+        byLess chosen 3
+        (λ h. let all : few ≡ chosen = omega (arith, f) in ap (λ k. take k choice) all)
+        (λ h. take-all few choice (omega (arith, f, three)) ∙ sym (take-all chosen choice (omega (arith, three))))
+
+pub remarked : (worded : Bool) (g : Given) (before : List ℕ) (k m r : ℕ) (first second left : List ℕ) → not worded ≡ false
+    → Told (answerText (g .row) (g .first) (g .second)) before (g .held) k first
+    → Appended first k (costText (g .counted) (g .asked)) m second → m ≤ k + 37
+    → Appended second m (choiceText (g .chosen) (g .choice)) r left → r ≤ m + 47 → Remarked worded g before r left
+remarked worded g before k m r first second left h x y small z few =
+    let cost = costText (g .counted) (g .asked) in
     record {
       remark = wordsIn g (x .row);
-      seen = all-append 32 126 (answerText (g .row) (g .first) (g .second) (x .row)) _ (x .seen) (cost-seen (g .counted) (g .asked));
+      seen =
+          all-append 32 126 (answerText (g .row) (g .first) (g .second) (x .row)) _ (x .seen)
+          (all-append 32 126 cost _ (cost-seen (g .counted) (g .asked)) (choice-seen (g .chosen) (g .choice)));
       plain = λ p. absurd (false≢true (sym p ∙ not-false worded h));
       told = λ p. (x .row, refl);
-      appended = after (x .appended) y;
+      appended = after (x .appended) (after y z);
       room = omega (arith, x .short, x .appended .end);
     }
 

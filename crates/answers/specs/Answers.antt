@@ -3,21 +3,22 @@ use mathlib.Core.Bool.{Bool, true, false, not}
 use mathlib.Core.List.{List, [], _∷_, _++_}
 use Prim.Native.Nat.{ℕ}
 use lib.Dec.{eqb}
-use lib.ListN.{getD}
+use lib.ListN.{getD, take}
 use Rattle.model.specs.declared.Verdict.{Verdict}
-use Rattle.model.specs.declared.CheckAnswer.{CheckAnswer}
+use Rattle.model.specs.declared.OfferedAnswer.{OfferedAnswer}
 use Rattle.model.specs.declared.RunAnswer.{RunAnswer}
 use Rattle.model.specs.Question.{pick}
 use Rattle.model.specs.Machine.{Run, returned}
 use Rattle.grammar.specs.Codes.{codes}
-use Rattle.protocol.specs.Text.{decimal, verdictText, checkText, runText, malformedText}
+use Rattle.protocol.specs.Text.{decimal, fields, verdictText, checkText, runText, malformedText}
 use Rattle.telling.specs.Row.{answerText}
 use Rattle.protocol.specs.Said.{Said, nothing, malformedAt, request}
-use Rattle.calls.specs.Requests.{checkOf, memoryVerdict, entryVerdict, runOf}
+use Rattle.calls.specs.Requests.{checkOf, blanksIn, memoryVerdict, entryVerdict, runOf}
 
 -- ---- answers
 
--- an answer's text, what the table of words is asked about it, a row and a place, and whether it has a count, and which
+-- an answer's text, what the table of words is asked about it, a row and a place, whether it has a count, and which, and for how many blank
+-- annotations rows were chosen, and which
 pub record Answer : Type 0 where
   pub text : List ℕ
   pub row : ℕ
@@ -25,6 +26,8 @@ pub record Answer : Type 0 where
   pub second : ℕ
   pub counted : Bool
   pub asked : ℕ
+  pub chosen : ℕ
+  pub choice : List ℕ
 
 -- the rows of the table of words that are no number of document 01: a run that halted, and a line that is no request
 abbrev pub haltedRow : ℕ
@@ -33,31 +36,59 @@ haltedRow = 100
 abbrev pub malformedRow : ℕ
 malformedRow = 101
 
-abbrev pub judged : Verdict → Answer
-judged v = record { text = verdictText v; row = v .number; first = v .first; second = v .second; counted = false; asked = 0 }
+-- an answer with neither count nor rows
+abbrev pub plain : List ℕ → ℕ → ℕ → ℕ → Answer
+plain text row first second =
+    record {
+      text = text;
+      row = row;
+      first = first;
+      second = second;
+      counted = false;
+      asked = 0;
+      chosen = 0;
+      choice = 0 ∷ 0 ∷ 0 ∷ [];
+    }
 
-abbrev pub checked : CheckAnswer → Answer
-checked a = record { text = checkText a; row = a .number; first = a .first; second = a .second; counted = true; asked = a .asked }
+abbrev pub judged : Verdict → Answer
+judged v = plain (verdictText v) (v .number) (v .first) (v .second)
+
+-- a routine with so many blank annotations has a row for each, and none where it is refused
+abbrev pub chosenFor : ℕ → ℕ → ℕ
+chosenFor number blanks = pick (eqb number 0) blanks 0
+
+abbrev pub checked : OfferedAnswer → ℕ → Answer
+checked a blanks =
+    record {
+      text = checkText a;
+      row = a .number;
+      first = a .first;
+      second = a .second;
+      counted = true;
+      asked = a .asked;
+      chosen = chosenFor (a .number) blanks;
+      choice = a .choice;
+    }
 
 -- a run's 0 has another row than that of a check
 abbrev pub runRow : ℕ → ℕ
 runRow number = pick (eqb number 0) haltedRow number
 
 abbrev pub ranWith : RunAnswer → List ℕ → Answer
-ranWith a memory = record { text = runText a memory; row = runRow (a .number); first = a .block; second = a .index; counted = false; asked = 0 }
+ranWith a memory = plain (runText a memory) (runRow (a .number)) (a .block) (a .index)
 
 abbrev pub ran : Run → Answer
 ran r = ranWith (returned r) (r .memory)
 
 abbrev pub unread : ℕ → Answer
-unread place = record { text = malformedText place; row = malformedRow; first = place; second = 0; counted = false; asked = 0 }
+unread place = plain (malformedText place) malformedRow place 0
 
 -- ---- requests
 
 -- by the row of the grammar
 unfoldable pub requestAnswer : ℕ → List (List ℕ) → List ℕ → Answer
 requestAnswer form parts longs =
-    pick (eqb form 0) (checked (checkOf parts))
+    pick (eqb form 0) (checked (checkOf parts) (blanksIn parts))
     (pick (eqb form 1) (judged (memoryVerdict parts))
     (pick (eqb form 2) (judged (entryVerdict parts))
     (ran (runOf parts (getD longs 0 0)))))
@@ -82,12 +113,17 @@ lineText lined count (request form parts longs) remark = outputLine lined count 
 abbrev pub costText : Bool → ℕ → List ℕ
 costText counted asked = pick counted (codes "; fit questions: " ++ decimal asked) []
 
+-- '; rows chosen: P0 ..', one for each blank annotation of an accepted routine
+abbrev pub choiceText : ℕ → List ℕ → List ℕ
+choiceText chosen choice = pick (eqb chosen 0) [] (codes "; rows chosen:" ++ fields (take chosen choice))
+
 -- what is added in words, over the row of the table that the answer has
-abbrev pub wordsWith : (number first second : ℕ) → Bool → ℕ → List ℕ → List ℕ
-wordsWith number first second counted asked row = answerText number first second row ++ costText counted asked
+abbrev pub wordsWith : (number first second : ℕ) → Bool → (asked chosen : ℕ) → (choice row : List ℕ) → List ℕ
+wordsWith number first second counted asked chosen choice row =
+    answerText number first second row ++ (costText counted asked ++ choiceText chosen choice)
 
 abbrev pub wordsOf : Answer → List ℕ → List ℕ
-wordsOf a = wordsWith (a .row) (a .first) (a .second) (a .counted) (a .asked)
+wordsOf a = wordsWith (a .row) (a .first) (a .second) (a .counted) (a .asked) (a .chosen) (a .choice)
 
 unfoldable pub remarkText : Said → List ℕ → List ℕ
 remarkText nothing row = []

@@ -28,6 +28,8 @@ pub record Gives (before : List ℕ) (n : ℕ) (a : Answer) (g : Given) (after :
   pub second : g .second ≡ a .second
   pub counted : g .counted ≡ a .counted
   pub asked : g .asked ≡ a .asked
+  pub chosen : g .chosen ≡ a .chosen
+  pub choice : g .choice ≡ a .choice
   pub room : g .held ≤ n + longest
 
 -- a line at its end is a request or malformed
@@ -41,7 +43,7 @@ answerAt l words ends longs =
 
 -- what is added in words to an answer that stands in the buffer
 abbrev pub wordsIn : Given → List ℕ → List ℕ
-wordsIn g = wordsWith (g .row) (g .first) (g .second) (g .counted) (g .asked)
+wordsIn g = wordsWith (g .row) (g .first) (g .second) (g .counted) (g .asked) (g .chosen) (g .choice)
 
 -- words after an answer, where they are asked for: a text without line ends, made of some row of the table of words
 pub record Remarked (worded : Bool) (g : Given) (before : List ℕ) (r : ℕ) (after : List ℕ) : Type 0 where
@@ -50,7 +52,7 @@ pub record Remarked (worded : Bool) (g : Given) (before : List ℕ) (r : ℕ) (a
   pub plain : worded ≡ false → remark ≡ []
   pub told : worded ≡ true → (row : List ℕ) × (remark ≡ wordsIn g row)
   pub appended : Appended before (g .held) remark r after
-  pub room : r ≤ g .held + 16037
+  pub room : r ≤ g .held + 16084
 
 -- an answer, the words after it and its line's end
 pub record Ended (worded : Bool) (g : Given) (before : List ℕ) (reply : Reply) (after : List ℕ) : Type 0 where
@@ -60,7 +62,7 @@ pub record Ended (worded : Bool) (g : Given) (before : List ℕ) (reply : Reply)
   pub told : worded ≡ true → (row : List ℕ) × (remark ≡ wordsIn g row)
   pub text : Appended before (g .held) (remark ++ (10 ∷ [])) (reply .held) after
   pub refusal : reply .refused ≡ refusalRow (g .row)
-  pub room : reply .held ≤ g .held + 16038
+  pub room : reply .held ≤ g .held + 16085
 
 -- what a line says is answered, with words after it where they are asked for
 pub record Replied (s : Style) (count : ℕ) (what : Said) (before : List ℕ) (n : ℕ) (reply : Reply) (after : List ℕ) : Type 0 where

@@ -1,11 +1,11 @@
 // The answer to a line at its end, as text after what the buffer holds already.
 ghost use mathlib.Core.Path.{_≡_};
-ghost use Prim.Native.Nat.{_+_, _≤_};
+ghost use Prim.Native.Nat.{_+_, _≤_, min};
 ghost use lib.ListN.{length, take};
 ghost use Rattle.grammar.specs.Grammar.{pool};
 ghost use Rattle.protocol.specs.Said.{said, partsIn};
 ghost use Rattle.calls.specs.Requests.{runOf, readyOf};
-ghost use Rattle.answers.specs.Answers.{requestAnswer, lineNumber, costText, refusalRow, runRow};
+ghost use Rattle.answers.specs.Answers.{requestAnswer, lineNumber, costText, chosenFor, choiceText, refusalRow, runRow};
 ghost use Rattle.model.specs.Table.{codeOf};
 ghost use Rattle.model.specs.Machine.{run};
 ghost use Rattle.answers.specs.Answers.{judged as judgedAnswer, checked as checkedAnswer, unread as unreadAnswer};
@@ -15,13 +15,14 @@ ghost use Rattle.reader.specs.Reader.{reader};
 ghost use Rattle.output.specs.Appended.{buffer, Appended};
 use calls::long;
 use calls::part;
-use model::CheckAnswer;
+use model::OfferedAnswer;
 use model::RunAnswer;
 use model::Verdict;
 use model::number;
 use protocol::Line;
 
-// An answer that stands in the buffer: where it ends, what the table of words is to be asked of it, and whether it has a count, and which.
+// An answer that stands in the buffer: where it ends, what the table of words is to be asked of it, whether it has a count, and which, and for
+// how many blank annotations rows were chosen, and which.
 pub struct Given {
     pub held: usize,
     pub row: u32,
@@ -29,6 +30,8 @@ pub struct Given {
     pub second: u64,
     pub counted: bool,
     pub asked: u64,
+    pub chosen: usize,
+    pub choice: [u32; 3],
 }
 
 // How answers are written.
@@ -58,15 +61,29 @@ fn judged(out: &mut [u8; output::BUFFER], n: usize, v: Verdict) -> Given
         second: v.second as u64,
         counted: false,
         asked: 0,
+        chosen: 0,
+        choice: [0, 0, 0],
     }
 }
 
-// What the check of a routine answered.
-fn checked(out: &mut [u8; output::BUFFER], n: usize, a: CheckAnswer) -> Given
+// For how many blank annotations the answer to a check has rows.
+fn chosen_for(number: u32, blanks: usize) -> usize
+    ensures { λ r. ⌜ r ≡ chosenFor number blanks ⌝ }
+{
+    if number == number::PASSED {
+        return blanks;
+    }
+    0
+}
+
+// What the check of a routine with so many blank annotations answered.
+fn checked(out: &mut [u8; output::BUFFER], n: usize, a: OfferedAnswer, blanks: usize) -> Given
     requires { ⌜ n ≤ 65600 ⌝ }
-    ensures { λ r. ⌜ Gives (now (out .entry)) n (checkedAnswer a) r (now (out .exit)) ⌝ }
+    ensures { λ r. ⌜ Gives (now (out .entry)) n (checkedAnswer a blanks) r (now (out .exit)) ⌝ }
 {
     let held = output::check_answer(out, n, a);
+    let chosen = chosen_for(a.number, blanks);
+    let choice = a.choice;
     Given {
         held: held,
         row: a.number,
@@ -74,6 +91,8 @@ fn checked(out: &mut [u8; output::BUFFER], n: usize, a: CheckAnswer) -> Given
         second: a.second as u64,
         counted: true,
         asked: a.asked as u64,
+        chosen: chosen,
+        choice: choice,
     }
 }
 
@@ -90,6 +109,8 @@ fn unread(out: &mut [u8; output::BUFFER], n: usize, place: u64) -> Given
         second: 0,
         counted: false,
         asked: 0,
+        chosen: 0,
+        choice: [0, 0, 0],
     }
 }
 
@@ -115,6 +136,8 @@ fn printed(out: &mut [u8; output::BUFFER], n: usize, r: RunAnswer, memory: &[u32
         second: r.index as u64,
         counted: false,
         asked: 0,
+        chosen: 0,
+        choice: [0, 0, 0],
     }
 }
 
@@ -175,7 +198,8 @@ fn request(
     let form = l.form;
     let marked = l.marked;
     if form == protocol::CHECK {
-        return checked(out, n, calls::check(words, ends, marked));
+        let a = calls::check(words, ends, marked);
+        return checked(out, n, a, calls::blanks(words, ends, marked));
     }
     if form == protocol::MEMORY {
         return judged(out, n, calls::memory_check(words, ends, marked));
@@ -232,6 +256,30 @@ fn cost(out: &mut [u8; output::BUFFER], n: usize, counted: bool, asked: u64) -> 
     output::number(out, at, asked)
 }
 
+// No more than the three that an answer holds.
+fn at_most_three(n: usize) -> usize
+    ensures { λ r. ⌜ r ≡ min n 3 ⌝ }
+{
+    if n < 3 {
+        return n;
+    }
+    3
+}
+
+// The rows chosen for blank annotations, in words.
+fn rows(out: &mut [u8; output::BUFFER], n: usize, chosen: usize, choice: [u32; 3]) -> usize
+    requires { ⌜ n + 47 ≤ buffer ⌝ }
+    ensures text { λ r. ⌜ Appended (now (out .entry)) n (choiceText chosen choice) r (now (out .exit)) ⌝ }
+    ensures room { λ r. ⌜ r ≤ n + 47 ⌝ }
+{
+    if chosen == 0 {
+        return n;
+    }
+    let at = output::text(out, n, b"; rows chosen:");
+    let few = at_most_three(chosen);
+    output::words(out, at, &choice[..few])
+}
+
 // What an answer means, where words are asked for.
 fn remark(out: &mut [u8; output::BUFFER], worded: bool, g: Given) -> usize
     requires { ⌜ g .held + 16384 ≤ buffer ⌝ }
@@ -241,7 +289,9 @@ fn remark(out: &mut [u8; output::BUFFER], worded: bool, g: Given) -> usize
         return g.held;
     }
     let at = words::explain(out, g.held, g.row, g.first, g.second);
-    cost(out, at, g.counted, g.asked)
+    let counted = cost(out, at, g.counted, g.asked);
+    let choice = g.choice;
+    rows(out, counted, g.chosen, choice)
 }
 
 // Whether an answer is other than 0 and 40.

@@ -6,20 +6,23 @@ use native.Mathlib.Omega.{arith}
 use lib.ListN.{length, getD, set, take, drop}
 use lib.Seq.{take-suc, drop-cons, set-at, length-take-le, take-length, drop-length}
 use Rattle.model.specs.declared.Verdict.{Verdict}
-use Rattle.model.specs.declared.CheckAnswer.{CheckAnswer}
+use Rattle.model.specs.declared.OfferedAnswer.{OfferedAnswer}
 use Rattle.model.specs.declared.RunAnswer.{RunAnswer}
 use Rattle.model.specs.Table.{codeOf}
 use Rattle.model.specs.Machine.{ready, run, returned}
-use Rattle.model.specs.Cost.{checkAnswer}
+use Rattle.model.specs.Blank.{blanksOf, offeredCheck}
 use Rattle.model.specs.MemoryCheck.{memoryCheck, entryCheck}
-use Rattle.calls.specs.Requests.{part, registersOf, Ran, checkOf, memoryVerdict, entryVerdict}
+use Rattle.calls.specs.Requests.{part, registersOf, Ran, checkOf, blanksIn, memoryVerdict, entryVerdict}
 
--- ---- verdicts
+-- ---- verdicts, and blank annotations
 
-module _ (parts : List (List ℕ)) (v : CheckAnswer) where
-  pub check-gave : (a b c d : List ℕ) → v ≡ checkAnswer a b (codeOf c d) → a ≡ part parts 0 → b ≡ part parts 1 → c ≡ part parts 2 → d ≡ part parts 3
-      → v ≡ checkOf parts
-  check-gave a b c d e p q r s = e ∙ rw (p, q, r, s)
+module _ (parts : List (List ℕ)) (v : OfferedAnswer) where
+  pub check-gave : (a b c d o : List ℕ) → v ≡ offeredCheck a b (codeOf c d) o
+      → a ≡ part parts 0 → b ≡ part parts 1 → c ≡ part parts 2 → d ≡ part parts 3 → o ≡ part parts 4 → v ≡ checkOf parts
+  check-gave a b c d o e p q r s t = e ∙ rw (p, q, r, s, t)
+
+pub blanks-counted : (parts : List (List ℕ)) (n : ℕ) (blocks : List ℕ) → n ≡ length (blanksOf blocks) → blocks ≡ part parts 2 → n ≡ blanksIn parts
+blanks-counted parts n blocks e p = e ∙ rw p
 
 module _ (parts : List (List ℕ)) (v : Verdict) where
   pub memory-check-gave : (a b c d : List ℕ) → v ≡ memoryCheck a b c d → a ≡ part parts 0 → b ≡ part parts 1 → c ≡ part parts 2 → d ≡ part parts 3

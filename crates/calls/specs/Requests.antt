@@ -2,13 +2,13 @@
 use mathlib.Core.Path.{_≡_}
 use mathlib.Core.List.{List, [], _∷_}
 use Prim.Native.Nat.{ℕ}
-use lib.ListN.{getD}
+use lib.ListN.{length, getD}
 use Rattle.model.specs.declared.Verdict.{Verdict}
-use Rattle.model.specs.declared.CheckAnswer.{CheckAnswer}
+use Rattle.model.specs.declared.OfferedAnswer.{OfferedAnswer}
 use Rattle.model.specs.declared.RunAnswer.{RunAnswer}
 use Rattle.model.specs.Table.{codeOf}
 use Rattle.model.specs.Machine.{Ready, ready, Run, run, returned}
-use Rattle.model.specs.Cost.{checkAnswer}
+use Rattle.model.specs.Blank.{blanksOf, offeredCheck}
 use Rattle.model.specs.MemoryCheck.{memoryCheck, entryCheck}
 
 -- R0 .. R7, the words of a row after its first
@@ -32,9 +32,13 @@ module _ (parts : List (List ℕ)) where
   abbrev pub part : ℕ → List ℕ
   part i = getD parts i []
 
-  -- TYPES TAGS BLOCKS CODE
-  abbrev pub checkOf : CheckAnswer
-  checkOf = checkAnswer (part 0) (part 1) (codeOf (part 2) (part 3))
+  -- TYPES TAGS BLOCKS CODE OFFERED
+  abbrev pub checkOf : OfferedAnswer
+  checkOf = offeredCheck (part 0) (part 1) (codeOf (part 2) (part 3)) (part 4)
+
+  -- how many annotations of BLOCKS are blank
+  abbrev pub blanksIn : ℕ
+  blanksIn = length (blanksOf (part 2))
 
   -- TYPES TAGS ALLOCATIONS MEMORY
   abbrev pub memoryVerdict : Verdict

@@ -1,28 +1,38 @@
-// The four calls of the loader, each at the parts of a request that was read into the pools.
+// The calls of the loader that requests ask for, each at the parts of a request that was read into the pools.
 ghost use mathlib.Core.Path.{_≡_};
 ghost use lib.ListN.{length};
 ghost use Rattle.protocol.specs.Said.{partsIn};
-ghost use Rattle.calls.specs.Requests.{checkOf, memoryVerdict, entryVerdict, Ran};
+ghost use Rattle.calls.specs.Requests.{checkOf, blanksIn, memoryVerdict, entryVerdict, Ran};
 use crate::parts::registers;
 use crate::parts::word;
-use model::CheckAnswer;
+use model::OfferedAnswer;
 use model::RunAnswer;
 use model::Verdict;
 
+mod annotations;
 mod parts;
 
 pub use parts::long;
 pub use parts::part;
 
-// TYPES TAGS BLOCKS CODE
-pub fn check(words: &[u32], ends: &[usize], marked: usize) -> CheckAnswer
+// TYPES TAGS BLOCKS CODE OFFERED
+pub fn check(words: &[u32], ends: &[usize], marked: usize) -> OfferedAnswer
     ensures { λ r. ⌜ r ≡ checkOf (partsIn (now (words .entry)) (now (ends .entry)) marked) ⌝ }
 {
     let types = part(words, ends, marked, 0);
     let tags = part(words, ends, marked, 1);
     let blocks = part(words, ends, marked, 2);
     let code = part(words, ends, marked, 3);
-    loader::check(types, tags, blocks, code)
+    let offered = part(words, ends, marked, 4);
+    loader::check_offered(types, tags, blocks, code, offered)
+}
+
+// How many annotations of BLOCKS are blank.
+pub fn blanks(words: &[u32], ends: &[usize], marked: usize) -> usize
+    ensures { λ r. ⌜ r ≡ blanksIn (partsIn (now (words .entry)) (now (ends .entry)) marked) ⌝ }
+{
+    let blocks = part(words, ends, marked, 2);
+    annotations::blanks(blocks)
 }
 
 // TYPES TAGS ALLOCATIONS MEMORY

@@ -10,9 +10,13 @@ use denote.Triple.Clauses.{Lasts, atExit}
 use denote.Triple.Entry.{Args}
 use Rattle.model.specs.Table.{codeOf}
 use Rattle.model.specs.Machine.{ready}
-use Rattle.embed.specs.Turns.{CheckSaid, MemoryCheckSaid, EntryCheckSaid, RunSaid}
+use Rattle.embed.specs.Turns.{CheckSaid, OfferedCheckSaid, FillSaid, MemoryCheckSaid, EntryCheckSaid, RunSaid}
 use Rattle.embed.proofs.ramdulsi_check
 use Rattle.embed.proofs.ramdulsi_check.Reads as check-read
+use Rattle.embed.proofs.ramdulsi_check_offered
+use Rattle.embed.proofs.ramdulsi_check_offered.Reads as check-offered-read
+use Rattle.embed.proofs.ramdulsi_fill
+use Rattle.embed.proofs.ramdulsi_fill.Reads as fill-read
 use Rattle.embed.proofs.ramdulsi_memory_check
 use Rattle.embed.proofs.ramdulsi_memory_check.Reads as memory-check-read
 use Rattle.embed.proofs.ramdulsi_entry_check
@@ -35,6 +39,33 @@ module _ (κs : Lfts 5) (types tags blocks code verdict : Lent) where
       → check-read.Learnt κs to-check r (atExit ramdulsi_check.ended κs to-check last)
       ↔ CheckSaid (now types) (now tags) (codeOf (now blocks) (now code)) r (now (atExit ramdulsi_check.ended κs to-check last .1 .1 .1 .1 .0))
   check-gives r last = (λ l. l, λ g. g)
+
+module _ (κs : Lfts 7) (types tags blocks code offered verdict choice : Lent) where
+  abbrev to-check-offered : Args ramdulsi_check_offered.signature κs
+  to-check-offered = (types, (tags, (blocks, (code, (offered, (verdict, (choice, tt)))))))
+
+  pub check-offered-asks : check-offered-read.Asked κs to-check-offered ≡ Unit {0}
+  check-offered-asks = refl
+
+  pub check-offered-gives : (r : ℕ) (last : Lasts ramdulsi_check_offered.ended κs to-check-offered)
+      → check-offered-read.Learnt κs to-check-offered r (atExit ramdulsi_check_offered.ended κs to-check-offered last)
+      ↔ OfferedCheckSaid (now types) (now tags) (codeOf (now blocks) (now code)) (now offered) r
+      (now (atExit ramdulsi_check_offered.ended κs to-check-offered last .1 .1 .1 .1 .1 .0))
+      (now (atExit ramdulsi_check_offered.ended κs to-check-offered last .1 .1 .1 .1 .1 .1 .0))
+  check-offered-gives r last = (λ l. l, λ g. g)
+
+  abbrev to-fill : Args ramdulsi_fill.signature κs
+  to-fill = (types, (tags, (blocks, (code, (offered, (verdict, (choice, tt)))))))
+
+  pub fill-asks : fill-read.Asked κs to-fill ≡ Unit {0}
+  fill-asks = refl
+
+  pub fill-gives : (r : ℕ) (last : Lasts ramdulsi_fill.ended κs to-fill)
+      → fill-read.Learnt κs to-fill r (atExit ramdulsi_fill.ended κs to-fill last)
+      ↔ FillSaid (now types) (now tags) (codeOf (now blocks) (now code)) (now offered) r
+      (now (atExit ramdulsi_fill.ended κs to-fill last .1 .1 .1 .1 .1 .0))
+      (now (atExit ramdulsi_fill.ended κs to-fill last .1 .1 .1 .1 .1 .1 .0)) (now (atExit ramdulsi_fill.ended κs to-fill last .1 .1 .0))
+  fill-gives r last = (λ l. l, λ g. g)
 
 module _ (κs : Lfts 5) (types tags allocations memory place : Lent) where
   abbrev to-memory-check : Args ramdulsi_memory_check.signature κs

@@ -7,15 +7,16 @@ use Rattle.model.specs.declared.RunAnswer.{RunAnswer}
 use Rattle.model.specs.Table.{Code}
 use Rattle.model.specs.Machine.{run, returned, Ready}
 use Rattle.model.specs.Cost.{checkAnswer}
+use Rattle.model.specs.Blank.{offeredCheck}
 use Rattle.model.specs.MemoryCheck.{memoryCheck, entryCheck}
 use Rattle.model.specs.Turns.{Task, World}
 use Rattle.loader.specs.Delivery.{RunGave, Passed, Calls, Delivers, Delivered, none as no-call, checked as check-made, memoryChecked as memory-made}
-use Rattle.loader.specs.Delivery.{entryChecked as entry-made, turned as turn-made, ran as run-made}
+use Rattle.loader.specs.Delivery.{offerChecked as offer-made, filled as fill-made, entryChecked as entry-made, turned as turn-made, ran as run-made}
 use Rattle.loader.proofs.Answered.{answered}
 use Rattle.loader.proofs.Delivered.{delivered}
 use Rattle.embed.specs.Lent.{endedAt}
-use Rattle.embed.specs.Turns.{RunSaid, answerIn, PassedInC, CCalls, none, checked, memoryChecked, entryChecked, turned, ran, DeliversInC}
-use Rattle.embed.specs.Turns.{AnsweredInC, DeliveredInC}
+use Rattle.embed.specs.Turns.{RunSaid, answerIn, PassedInC, CCalls, none, checked, offerChecked, filled, memoryChecked, entryChecked}
+use Rattle.embed.specs.Turns.{turned, ran, DeliversInC, AnsweredInC, DeliveredInC}
 
 -- blocks finished, put together from their low and their high word
 both-words : (a : RunAnswer) → answerIn (a .number) (a .registers) (endedAt a) .finished ≡ a .finished
@@ -55,6 +56,9 @@ module _ (types tags allocations memory : List ℕ) (n : ℕ) (tasks : ℕ → T
   pub leads : {w : World} → CCalls types tags allocations memory n tasks w → Reached w
   leads none = no-call
   leads (checked types' tags' C r verdict p q) = check-made types' tags' C (checkAnswer types' tags' C) (leads p) refl
+  leads (offerChecked types' tags' C offered r verdict choice p q) = offer-made types' tags' C offered (offeredCheck types' tags' C offered) (leads p) refl
+  leads (filled types' tags' C offered r verdict choice left p q) =
+      fill-made types' tags' C offered (offeredCheck types' tags' C offered) left (leads p) (refl, q .1)
   leads (memoryChecked {w = w} types' tags' allocations' r place left p q) =
       memory-made types' tags' allocations' (memoryCheck types' tags' allocations' (w .memory)) left (leads p) (refl, q .1)
   leads (entryChecked {w = w} types' tags' allocations' C g r place left p q) =
@@ -70,6 +74,8 @@ module _ (types tags allocations memory : List ℕ) (n : ℕ) (tasks : ℕ → T
   unfolding leads
   delivers none D = D
   delivers (checked types' tags' C r verdict p q) D = delivers p D
+  delivers (offerChecked types' tags' C offered r verdict choice p q) D = delivers p D
+  delivers (filled types' tags' C offered r verdict choice left p q) D = delivers p D
   delivers (memoryChecked types' tags' allocations' r place left p q) (D, s, h) = (delivers p D, s, h)
   delivers (entryChecked types' tags' allocations' C g r place left p q) (D, s, h) = (delivers p D, s, h)
   delivers (turned i budget g r left registers answer p e q) (D, t, h) = (delivers p D, t, h)

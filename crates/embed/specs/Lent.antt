@@ -6,8 +6,10 @@ use denote.Ref.{RefT, now}
 use denote.Triple.Both.{Both}
 use Rattle.model.specs.declared.Verdict.{Verdict}
 use Rattle.model.specs.declared.CheckAnswer.{CheckAnswer}
+use Rattle.model.specs.declared.OfferedAnswer.{OfferedAnswer}
 use Rattle.model.specs.declared.RunAnswer.{RunAnswer}
 use Rattle.model.specs.Machine.{Run, returned}
+use Rattle.model.specs.Blank.{filledAfter}
 
 -- words that a call is lent, as they are at entry and at exit
 abbrev pub Lent : Type 0
@@ -32,6 +34,18 @@ placeAndCount a = a .first ∷ a .second ∷ a .asked ∷ []
 -- the check of a routine leaves them both
 abbrev pub AnswersCounting : ℕ → Lent → CheckAnswer → Type 0
 AnswersCounting r verdict a = (r ≡ a .number) × (now (verdict .exit) ≡ placeAndCount a)
+
+-- the same of a check with offered rows
+abbrev pub countedPlace : OfferedAnswer → List ℕ
+countedPlace a = a .first ∷ a .second ∷ a .asked ∷ []
+
+-- it leaves the places chosen beside them
+abbrev pub AnswersChoosing : ℕ → Lent → Lent → OfferedAnswer → Type 0
+AnswersChoosing r verdict choice a = (r ≡ a .number) × (now (verdict .exit) ≡ countedPlace a) × (now (choice .exit) ≡ a .choice)
+
+-- and a filling the block table as it then is
+abbrev pub Fills : ℕ → Lent → Lent → Lent → Lent → OfferedAnswer → Type 0
+Fills r blocks offered verdict choice a = AnswersChoosing r verdict choice a × (now (blocks .exit) ≡ filledAfter a (given blocks) (given offered))
 
 -- block, code index, and blocks finished by low and high word
 abbrev pub endedAt : RunAnswer → List ℕ

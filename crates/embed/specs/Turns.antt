@@ -9,10 +9,11 @@ use Rattle.model.specs.declared.RunAnswer.{RunAnswer}
 use Rattle.model.specs.Table.{Code}
 use Rattle.model.specs.Machine.{run, returned, Ready}
 use Rattle.model.specs.Cost.{checkAnswer}
+use Rattle.model.specs.Blank.{offeredCheck, filledAfter}
 use Rattle.model.specs.MemoryCheck.{memoryCheck, entryCheck}
 use Rattle.model.specs.Turns.{Task, waiting, World, running, settled, standingBy, atStart, Allowed}
 use Rattle.loader.specs.Delivery.{RunSays, with, Holds, TurnHolds}
-use Rattle.embed.specs.Lent.{placeOf, placeAndCount, endedAt}
+use Rattle.embed.specs.Lent.{placeOf, placeAndCount, countedPlace, endedAt}
 
 -- What a call gave back for what it was handed: its number, the words that it filled, and what it left of the memory that it was lent. These
 -- are the contracts of src/lib.rt, as proofs/Contracts.antt shows.
@@ -21,6 +22,16 @@ Said v r place = (r ≡ v .number) × (place ≡ placeOf v)
 
 abbrev pub CheckSaid : (types tags : List ℕ) → Code → (r : ℕ) → (verdict : List ℕ) → Type 0
 CheckSaid types tags C r verdict = (r ≡ checkAnswer types tags C .number) × (verdict ≡ placeAndCount (checkAnswer types tags C))
+
+abbrev pub OfferedCheckSaid : (types tags : List ℕ) → Code → (offered : List ℕ) → (r : ℕ) → (verdict choice : List ℕ) → Type 0
+OfferedCheckSaid types tags C offered r verdict choice =
+    (r ≡ offeredCheck types tags C offered .number)
+    × (verdict ≡ countedPlace (offeredCheck types tags C offered))
+    × (choice ≡ offeredCheck types tags C offered .choice)
+
+abbrev pub FillSaid : (types tags : List ℕ) → Code → (offered : List ℕ) → (r : ℕ) → (verdict choice left : List ℕ) → Type 0
+FillSaid types tags C offered r verdict choice left =
+    OfferedCheckSaid types tags C offered r verdict choice × (left ≡ filledAfter (offeredCheck types tags C offered) (C .blocks) offered)
 
 abbrev pub MemoryCheckSaid : (types tags allocations memory : List ℕ) → (r : ℕ) → (place left : List ℕ) → Type 0
 MemoryCheckSaid types tags allocations memory r place left = Said (memoryCheck types tags allocations memory) r place × (left ≡ memory)
@@ -64,6 +75,10 @@ module _ (types tags allocations memory : List ℕ) (n : ℕ) (tasks : ℕ → T
   pub data CCalls : World → Type 0 where
     none : CCalls (atStart tasks n memory)
     checked : {w : World} (types' tags' : List ℕ) (C : Code) (r : ℕ) (verdict : List ℕ) → CCalls w → CheckSaid types' tags' C r verdict → CCalls w
+    offerChecked : {w : World} (types' tags' : List ℕ) (C : Code) (offered : List ℕ) (r : ℕ) (verdict choice : List ℕ) → CCalls w
+        → OfferedCheckSaid types' tags' C offered r verdict choice → CCalls w
+    filled : {w : World} (types' tags' : List ℕ) (C : Code) (offered : List ℕ) (r : ℕ) (verdict choice left : List ℕ) → CCalls w
+        → FillSaid types' tags' C offered r verdict choice left → CCalls w
     memoryChecked : {w : World} (types' tags' allocations' : List ℕ) (r : ℕ) (place left : List ℕ) → CCalls w
         → MemoryCheckSaid types' tags' allocations' (w .memory) r place left → CCalls (with w left)
     entryChecked : {w : World} (types' tags' allocations' : List ℕ) (C : Code) (g : Ready) (r : ℕ) (place left : List ℕ) → CCalls w
@@ -82,6 +97,8 @@ module _ (types tags allocations memory : List ℕ) (n : ℕ) (tasks : ℕ → T
   abbrev pub DeliversInC : {w : World} → CCalls w → Type 0
   DeliversInC none = AllHolds (atStart tasks n memory)
   DeliversInC (checked types' tags' C r verdict p q) = DeliversInC p
+  DeliversInC (offerChecked types' tags' C offered r verdict choice p q) = DeliversInC p
+  DeliversInC (filled types' tags' C offered r verdict choice left p q) = DeliversInC p
   DeliversInC (memoryChecked {w = w} types' tags' allocations' r place left p q) = DeliversInC p × (with w left ≡ w) × AllHolds (with w left)
   DeliversInC (entryChecked {w = w} types' tags' allocations' C g r place left p q) = DeliversInC p × (with w left ≡ w) × AllHolds (with w left)
   DeliversInC (turned {w = w} i budget g r left registers answer p e q) =

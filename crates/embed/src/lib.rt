@@ -1,12 +1,14 @@
-// The four calls for C and Rust: a table is a pointer and a length, an answer is a number returned and words that the caller lends.
+// The six calls for C and Rust: a table is a pointer and a length, an answer is a number returned and words that the caller lends.
 // Each contract is the call's own, with the words that it fills.
 ghost use mathlib.Core.Path.{_≡_};
 ghost use Rattle.model.specs.Table.{codeOf};
 ghost use Rattle.model.specs.Machine.{run, ready};
 ghost use Rattle.model.specs.Cost.{checkAnswer};
+ghost use Rattle.model.specs.Blank.{offeredCheck};
 ghost use Rattle.model.specs.MemoryCheck.{memoryCheck, entryCheck};
-ghost use Rattle.embed.specs.Lent.{given, Answers, AnswersCounting, endedAt, Runs};
+ghost use Rattle.embed.specs.Lent.{given, Answers, AnswersCounting, AnswersChoosing, Fills, endedAt, Runs};
 use model::CheckAnswer;
+use model::OfferedAnswer;
 use model::RunAnswer;
 use model::Verdict;
 
@@ -23,6 +25,16 @@ fn counted(a: CheckAnswer, verdict: &mut [u32; 3]) -> u32
     ensures { λ r. ⌜ AnswersCounting r verdict a ⌝ }
 {
     *verdict = [a.first, a.second, a.asked];
+    a.number
+}
+
+// The same of a check with offered rows, and the places chosen in three words more.
+fn chosen(a: OfferedAnswer, verdict: &mut [u32; 3], choice: &mut [u32; 3]) -> u32
+    ensures { λ r. ⌜ AnswersChoosing r verdict choice a ⌝ }
+{
+    *verdict = [a.first, a.second, a.asked];
+    let places = a.choice;
+    *choice = places;
     a.number
 }
 
@@ -47,6 +59,41 @@ pub extern "C" fn ramdulsi_check(
 {
     let a = loader::check(types, tags, blocks, code);
     counted(a, verdict)
+}
+
+#[no_mangle]
+pub extern "C" fn ramdulsi_check_offered<'a, 'b: 'a>(
+    types: &[u32],
+    tags: &[u32],
+    blocks: &'a [u32],
+    code: &[u32],
+    offered: &'b [u32],
+    verdict: &mut [u32; 3],
+    choice: &mut [u32; 3],
+) -> u32
+    ensures { λ r. ⌜ AnswersChoosing r verdict choice
+        (offeredCheck (given types) (given tags) (codeOf (given blocks) (given code)) (given offered)) ⌝ }
+{
+    let a = loader::check_offered(types, tags, blocks, code, offered);
+    chosen(a, verdict, choice)
+}
+
+// The block table of an accepted routine is left filled.
+#[no_mangle]
+pub extern "C" fn ramdulsi_fill(
+    types: &[u32],
+    tags: &[u32],
+    blocks: &mut [u32],
+    code: &[u32],
+    offered: &[u32],
+    verdict: &mut [u32; 3],
+    choice: &mut [u32; 3],
+) -> u32
+    ensures { λ r. ⌜ Fills r blocks offered verdict choice
+        (offeredCheck (given types) (given tags) (codeOf (given blocks) (given code)) (given offered)) ⌝ }
+{
+    let a = loader::fill(types, tags, blocks, code, offered);
+    chosen(a, verdict, choice)
 }
 
 #[no_mangle]

@@ -100,11 +100,11 @@ filled zero ps = []
 filled (suc n) [] = done ∷ filled n []
 filled (suc n) (p ∷ ps) = p ∷ filled n ps
 
--- TYPES TAGS BLOCKS CODE; TYPES TAGS ALLOCATIONS MEMORY; TYPES TAGS ALLOCATIONS MEMORY BLOCKS CODE BLOCK R0 .. R7;
+-- TYPES TAGS BLOCKS CODE OFFERED; TYPES TAGS ALLOCATIONS MEMORY; TYPES TAGS ALLOCATIONS MEMORY BLOCKS CODE BLOCK R0 .. R7;
 -- BLOCKS CODE MEMORY BLOCK R0 .. R7 BUDGET
 unfoldable pub forms : List (List ℕ)
 forms =
-    filled rowLength (table ∷ table ∷ table ∷ table ∷ [])
+    filled rowLength (table ∷ table ∷ table ∷ table ∷ table ∷ [])
     ∷ filled rowLength (table ∷ table ∷ table ∷ table ∷ [])
     ∷ filled rowLength (table ∷ table ∷ table ∷ table ∷ table ∷ table ∷ words 9 ∷ [])
     ∷ filled rowLength (table ∷ table ∷ table ∷ words 9 ∷ long ∷ [])

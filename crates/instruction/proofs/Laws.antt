@@ -17,6 +17,12 @@ use Rattle.instruction.specs.Form.{formNo, plainOf, endOf, targetOf, for
 
 -- ---- the instruction of a well-formed word
 
+plain-not : {x : Plain} {e : End} → plain x ≡ end e → ⊥
+plain-not h = let z : _≡_ {A = ℕ} 0 1 = cc in omega arith
+
+end-same : {x y : End} → end x ≡ end y → x ≡ y
+end-same h = cc
+
 pub decode-plain : (w : ℕ) → wellFormed w ≡ true → 0 < opcodeOf w → opcodeOf w < 10 → decode w ≡ plain (plainOf w)
 unfolding plainOf
 decode-plain w q l h =
@@ -59,6 +65,19 @@ decode-end w q h =
     (λ n11. let l = h (omega arith) in
     let o : opcodeOf w ≡ 12 = omega arith in
     decoded w _ _ refl (decode-12 w o) q ∙ ap end (sym (end-less w o)))))
+
+-- a word that is read as an end is well formed, and ends a block
+pub record EndsAs (w : ℕ) (e : End) : Type 0 where
+  pub well : wellFormed w ≡ true
+  pub ends : 0 < opcodeOf w → 9 < opcodeOf w
+  pub is : endOf w ≡ e
+
+pub ends-as : (w : ℕ) (e : End) → decode w ≡ end e → EndsAs w e
+unfolding wellFormed
+ends-as w e d =
+    let well : wellFormed w ≡ true = rw d in
+    let ends : 0 < opcodeOf w → 9 < opcodeOf w = λ l. byLess (opcodeOf w) 10 (λ h. absurd (plain-not (sym (decode-plain w well l h) ∙ d))) (λ h. omega arith) in
+    record { well = well; ends = ends; is = end-same (sym (decode-end w well ends) ∙ d) }
 
 -- ---- Q9
 

@@ -118,10 +118,9 @@ pub fn targets_exist(w: u32, b: u32, count: u32) -> bool
     c < count
 }
 
-// The block of the taken edge of a well-formed word that ends a block, 0 for a halt.
+// The block of the taken edge, 0 for a halt, of a word that is well formed and ends a block.
 pub fn target(w: u32) -> u32
-    requires { ⌜ (wellFormed w ≡ true) × (0 < opcodeOf w → 9 < opcodeOf w) ⌝ }
-    ensures { λ r. ⌜ r ≡ targetOf (endOf w) ⌝ }
+    ensures { λ r. ⌜ (wellFormed w ≡ true → (0 < opcodeOf w → 9 < opcodeOf w) → r ≡ targetOf (endOf w)) ⌝ }
 {
     let c = w % 65536;
     if w / 16777216 == IF_EQUAL {

@@ -10,12 +10,17 @@ use denote.Triple.Clauses.{Lasts, atExit}
 use denote.Triple.Entry.{Args}
 use Rattle.model.specs.declared.Verdict.{Verdict}
 use Rattle.model.specs.declared.CheckAnswer.{CheckAnswer}
+use Rattle.model.specs.declared.OfferedAnswer.{OfferedAnswer}
 use Rattle.model.specs.declared.RunAnswer.{RunAnswer}
 use Rattle.model.specs.Table.{codeOf}
 use Rattle.model.specs.Machine.{ready}
-use Rattle.loader.specs.Delivery.{CheckGave, MemoryCheckGave, EntryCheckGave, RunGave}
+use Rattle.loader.specs.Delivery.{CheckGave, OfferedCheckGave, FillGave, MemoryCheckGave, EntryCheckGave, RunGave}
 use Rattle.loader.proofs.check
 use Rattle.loader.proofs.check.Reads as check-read
+use Rattle.loader.proofs.check_offered
+use Rattle.loader.proofs.check_offered.Reads as check-offered-read
+use Rattle.loader.proofs.fill
+use Rattle.loader.proofs.fill.Reads as fill-read
 use Rattle.loader.proofs.memory_check
 use Rattle.loader.proofs.memory_check.Reads as memory-check-read
 use Rattle.loader.proofs.entry_check
@@ -40,6 +45,32 @@ module _ (κs : Lfts 4) (types tags blocks code : Lent) where
 
   pub check-lent : (last : Lasts check.ended κs to-check) → atExit check.ended κs to-check last ≡ to-check
   check-lent last = refl
+
+module _ (κs : Lfts 5) (types tags blocks code offered : Lent) where
+  abbrev to-check-offered : Args check_offered.signature κs
+  to-check-offered = (types, (tags, (blocks, (code, (offered, tt)))))
+
+  pub check-offered-asks : check-offered-read.Asked κs to-check-offered ≡ Unit {0}
+  check-offered-asks = refl
+
+  pub check-offered-gives : (a : OfferedAnswer) (last : Lasts check_offered.ended κs to-check-offered)
+      → check-offered-read.Learnt κs to-check-offered a (atExit check_offered.ended κs to-check-offered last)
+      ↔ OfferedCheckGave (now types) (now tags) (codeOf (now blocks) (now code)) (now offered) a
+  check-offered-gives a last = (λ l. l, λ g. g)
+
+  pub check-offered-lent : (last : Lasts check_offered.ended κs to-check-offered) → atExit check_offered.ended κs to-check-offered last ≡ to-check-offered
+  check-offered-lent last = refl
+
+  abbrev to-fill : Args fill.signature κs
+  to-fill = (types, (tags, (blocks, (code, (offered, tt)))))
+
+  pub fill-asks : fill-read.Asked κs to-fill ≡ Unit {0}
+  fill-asks = refl
+
+  pub fill-gives : (a : OfferedAnswer) (last : Lasts fill.ended κs to-fill)
+      → fill-read.Learnt κs to-fill a (atExit fill.ended κs to-fill last)
+      ↔ FillGave (now types) (now tags) (codeOf (now blocks) (now code)) (now offered) a (now (atExit fill.ended κs to-fill last .1 .1 .0))
+  fill-gives a last = (λ l. l, λ g. g)
 
 module _ (κs : Lfts 4) (types tags allocations memory : Lent) where
   abbrev to-memory-check : Args memory_check.signature κs

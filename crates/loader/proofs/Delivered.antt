@@ -16,7 +16,7 @@ use Rattle.model.specs.declared.CheckAnswer.{CheckAnswer}
 use Rattle.model.specs.declared.RunAnswer.{RunAnswer}
 use Rattle.model.proofs.Safe.{demand-3}
 use Rattle.model.proofs.ChecksAgain.{memory-again, entry-again}
-use Rattle.loader.specs.Delivery.{CheckGave, RunGave, Passed, with, Calls, none, checked as check-made, memoryChecked, entryChecked}
+use Rattle.loader.specs.Delivery.{CheckGave, RunGave, Passed, with, Calls, none, checked as check-made, offerChecked, filled, memoryChecked, entryChecked}
 use Rattle.loader.specs.Delivery.{turned as turn-made, ran, Holds, TurnHolds, Delivers, Delivered}
 
 number-of : {v u : Verdict} → v ≡ u → u .number ≡ 0 → v .number ≡ 0
@@ -54,6 +54,8 @@ module _ (types tags allocations memory : List ℕ) (n : ℕ) (tasks : ℕ → T
   unfolding Demand3 afterCall
   all-safe w none calls = demand-3 types tags allocations memory n tasks checked calls
   all-safe w (check-made x y R u p g) calls = all-safe w p calls
+  all-safe w (offerChecked x y R o a p g) calls = all-safe w p calls
+  all-safe w (filled x y R o a left p g) calls = all-safe w p calls
   all-safe w (memoryChecked {w = v} x y z u left p (eu, el)) calls = rw el (all-safe v p calls)
   all-safe w (entryChecked {w = v} x y z R g u left p (eu, el)) calls = rw el (all-safe v p calls)
   all-safe w (turn-made {w = v} i budget g a left p e q) calls =
@@ -97,6 +99,8 @@ module _ (types tags allocations memory : List ℕ) (n : ℕ) (tasks : ℕ → T
   unfolding afterCall
   delivers w none = after w none
   delivers w (check-made x y R u p g) = delivers w p
+  delivers w (offerChecked x y R o a p g) = delivers w p
+  delivers w (filled x y R o a left p g) = delivers w p
   delivers w (memoryChecked {w = v} x y z u left p g) = (delivers v p, unchanged v left (g .1), after w (memoryChecked x y z u left p g))
   delivers w (entryChecked {w = v} x y z R g u left p q) = (delivers v p, unchanged v left (q .1), after w (entryChecked x y z R g u left p q))
   delivers w (turn-made {w = v} i budget g a left p e q) =

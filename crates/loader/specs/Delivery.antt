@@ -9,11 +9,13 @@ use lib.Dec.{eqb}
 use lib.ListN.{length}
 use Rattle.model.specs.declared.Verdict.{Verdict}
 use Rattle.model.specs.declared.CheckAnswer.{CheckAnswer}
+use Rattle.model.specs.declared.OfferedAnswer.{OfferedAnswer}
 use Rattle.model.specs.declared.RunAnswer.{RunAnswer}
 use Rattle.model.specs.Question.{_or_, Question, numberOf, Refusal, refusing, FirstRefused}
-use Rattle.model.specs.Table.{Code, Routine, routineOf}
+use Rattle.model.specs.Table.{Code, codeOf, Routine, routineOf}
 use Rattle.model.specs.Machine.{State, indexOf, step, halts, faults, runQuestions, run, returned, Ready, ready}
 use Rattle.model.specs.Cost.{askedOf, verdictIn, checkAnswer, Cost}
+use Rattle.model.specs.Blank.{offeredCheck, filledAfter, LeastChoice}
 use Rattle.model.specs.MemoryCheck.{memoryCheck, entryCheck}
 use Rattle.model.specs.Faults.{isOpening, isFault, Through}
 use Rattle.model.specs.Exactness.{Accepts, CheckNo, MemoryPasses, MemoryNo, EntryPasses, EntryNo, Finishes}
@@ -24,6 +26,13 @@ use Rattle.model.specs.Safety.{AllFit, Visits, TurnSafe}
 -- proofs/Contracts.antt shows.
 abbrev pub CheckGave : (types tags : List ℕ) → Code → CheckAnswer → Type 0
 CheckGave types tags C v = v ≡ checkAnswer types tags C
+
+abbrev pub OfferedCheckGave : (types tags : List ℕ) → Code → (offered : List ℕ) → OfferedAnswer → Type 0
+OfferedCheckGave types tags C offered a = a ≡ offeredCheck types tags C offered
+
+-- what it left of the block table
+abbrev pub FillGave : (types tags : List ℕ) → Code → (offered : List ℕ) → OfferedAnswer → (left : List ℕ) → Type 0
+FillGave types tags C offered a left = OfferedCheckGave types tags C offered a × (left ≡ filledAfter a (C .blocks) offered)
 
 abbrev pub MemoryCheckGave : (types tags allocations memory : List ℕ) → Verdict → (left : List ℕ) → Type 0
 MemoryCheckGave types tags allocations memory v left = (v ≡ memoryCheck types tags allocations memory) × (left ≡ memory)
@@ -93,6 +102,15 @@ pub record Answered : Type 0 where
   pub checks : (types tags : List ℕ) (C : Code) (v : CheckAnswer) → CheckGave types tags C v
       → ((v .number ≡ 0) ↔ Accepts types tags C) × ((r : Refusal) → (verdictIn v ≡ refusing r) ↔ CheckNo types tags C r)
       × (v .asked ≡ askedOf types tags C) × Cost types tags C
+  pub offers : (types tags : List ℕ) (C : Code) (offered : List ℕ) (a : OfferedAnswer) → OfferedCheckGave types tags C offered a
+      → LeastChoice types tags C offered a
+  -- An accepted routine is accepted with the table that it is left, at the same cost: with it, it enters demand 3. The table of a refused one
+  -- stays, and that of a routine which the check accepts as it is: so a filling changes no table of demand 3.
+  pub fills : (types tags : List ℕ) (C : Code) (offered : List ℕ) (a : OfferedAnswer) (left : List ℕ) → FillGave types tags C offered a left
+      → LeastChoice types tags C offered a
+      × (a .number ≡ 0 → (v : CheckAnswer) → CheckGave types tags (codeOf left (C .code)) v → (v .number ≡ 0) × (v .asked ≡ a .asked))
+      × ((a .number ≡ 0 → ⊥) → left ≡ C .blocks)
+      × ((v : CheckAnswer) → CheckGave types tags C v → v .number ≡ 0 → left ≡ C .blocks)
   pub memoryChecks : (types tags allocations memory : List ℕ) (v : Verdict) (left : List ℕ) → MemoryCheckGave types tags allocations memory v left
       → ((v .number ≡ 0) ↔ MemoryPasses types tags allocations memory)
       × ((r : Refusal) → (v ≡ refusing r) ↔ MemoryNo types tags allocations memory r) × (left ≡ memory)
@@ -118,10 +136,15 @@ module _ (types tags allocations memory : List ℕ) (n : ℕ) (tasks : ℕ → T
         × EntryCheckGave types tags allocations m (tasks i .code) (tasks i .start) v left × (v .number ≡ 0)
 
   -- Lists of calls, and the world that each leads to. Every call is handed memory as the one before left it, and a turn its routine as
-  -- it stands; a check goes over any tables. A call over another memory leads nowhere else; the turn of a halted routine is no call.
+  -- it stands; a check goes over any tables, a filling over any routine's. A call over another memory leads nowhere else; the turn of a
+  -- halted routine is no call.
   pub data Calls : World → Type 0 where
     none : Calls (atStart tasks n memory)
     checked : {w : World} (types' tags' : List ℕ) (C : Code) (v : CheckAnswer) → Calls w → CheckGave types' tags' C v → Calls w
+    offerChecked : {w : World} (types' tags' : List ℕ) (C : Code) (offered : List ℕ) (a : OfferedAnswer) → Calls w
+        → OfferedCheckGave types' tags' C offered a → Calls w
+    filled : {w : World} (types' tags' : List ℕ) (C : Code) (offered : List ℕ) (a : OfferedAnswer) (left : List ℕ) → Calls w
+        → FillGave types' tags' C offered a left → Calls w
     memoryChecked : {w : World} (types' tags' allocations' : List ℕ) (v : Verdict) (left : List ℕ) → Calls w
         → MemoryCheckGave types' tags' allocations' (w .memory) v left → Calls (with w left)
     entryChecked : {w : World} (types' tags' allocations' : List ℕ) (C : Code) (g : Ready) (v : Verdict) (left : List ℕ) → Calls w
@@ -149,6 +172,8 @@ module _ (types tags allocations memory : List ℕ) (n : ℕ) (tasks : ℕ → T
   abbrev pub Delivers : {w : World} → Calls w → Type 0
   Delivers none = Holds (atStart tasks n memory)
   Delivers (checked types' tags' C v p g) = Delivers p
+  Delivers (offerChecked types' tags' C offered a p g) = Delivers p
+  Delivers (filled types' tags' C offered a left p g) = Delivers p
   Delivers (memoryChecked {w = w} types' tags' allocations' v left p g) = Delivers p × (with w left ≡ w) × Holds (with w left)
   Delivers (entryChecked {w = w} types' tags' allocations' C g v left p q) = Delivers p × (with w left ≡ w) × Holds (with w left)
   Delivers (turned {w = w} i budget g a left p e q) = Delivers p × TurnHolds w i budget g a × Holds (settled w i left (standingBy a))

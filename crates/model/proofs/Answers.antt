@@ -1,10 +1,11 @@
--- The cases marked * hold, and so do those that tell wrong readings apart, and those of cards 13, 1 and 9: each is computed.
+-- The cases marked * hold, and so do those that tell wrong readings apart, and those of cards 13, 1, 9 and 12: each is computed.
 use mathlib.Core.Path.{refl}
 use Rattle.model.specs.Cases.{Cases}
 use Rattle.model.specs.Misreadings.{Misreadings}
 use Rattle.model.specs.Chains.{ChainCases}
 use Rattle.model.specs.Locks.{LockCases}
 use Rattle.model.specs.Cost.{CostCases}
+use Rattle.model.specs.Blank.{BlankCases}
 use Rattle.model.proofs.Compute.{computed}
 
 pub cases-hold : Cases
@@ -140,4 +141,28 @@ costs-hold =
       loadAlone = (refl, refl);
       noTarget = (refl, refl);
       byATable = (refl, refl);
+    }
+
+pub blanks-hold : BlankCases
+unfolding computed
+blanks-hold =
+    record {
+      twoBlank = refl;
+      threePlaces = refl;
+      twoAccepted = refl;
+      threeBlank = refl;
+      rowsOfBlocks = (refl, refl);
+      plain = refl;
+      noneFits = refl;
+      noneOffered = refl;
+      unread = refl;
+      badLength = refl;
+      nineRows = refl;
+      badRow = refl;
+      markedRow = refl;
+      fourth = refl;
+      oneWord = refl;
+      annotationFirst = refl;
+      lengthFirst = refl;
+      rowFirst = refl;
     }

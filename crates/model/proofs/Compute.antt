@@ -18,6 +18,8 @@ use Rattle.model.specs.MemoryCheck.{whenTrue, unlessTrue, startsTest, ru
 use Rattle.model.specs.MemoryCheck.{layoutAsk, memoryAsk, memoryCheck, entryAsk, entryCheck, routineAsk}
 use Rattle.model.specs.Chains.{blockApart, judgeApart, checkApart}
 use Rattle.model.specs.Cost.{past, plainAsked, edgesAsked, instructionAsked, sumOn, sumIn, sumFrom, sumOf, checkAnswer}
+use Rattle.model.specs.Blank.{isBlank, blanksFrom, offeredRow, filled, orElse, tryFrom, search, openAnnotationsAsk, blanksAsk, offeredLengthAsk}
+use Rattle.model.specs.Blank.{offeredRowsAsk, chosen, choose, byBlanks, offeredCheck}
 use Rattle.model.specs.Turns.{turned, afterCall, atStart}
 
 unfoldable pub computed : Unit {0}
@@ -40,5 +42,7 @@ unfolding
     routineAsk entryAsk entryCheck
     blockApart judgeApart checkApart
     past plainAsked edgesAsked instructionAsked sumOn sumIn sumFrom sumOf checkAnswer
+    isBlank blanksFrom offeredRow filled orElse tryFrom search openAnnotationsAsk blanksAsk offeredLengthAsk offeredRowsAsk
+    chosen choose byBlanks offeredCheck
     turned afterCall atStart
 computed = tt

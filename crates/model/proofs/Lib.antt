@@ -42,6 +42,10 @@ pub mod Chains
 pub mod Exact
 pub mod Cost
 pub mod CostRules
+pub mod Choice
+pub mod InForce
+pub mod BlockReads
+pub mod FilledTables
 pub mod Safe
 pub mod ChecksAgain
 pub mod Example

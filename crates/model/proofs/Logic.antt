@@ -3,13 +3,13 @@ use mathlib.Core.Path.{_≡_, refl, sym, ap, _∙_}
 use mathlib.Core.Logic.{_⊎_, inl, inr, _↔_}
 use mathlib.Core.Bool.{Bool, true, false, not, false≢true}
 use mathlib.Core.List.{List, [], _∷_, _++_}
-use Prim.Native.Nat.{ℕ, zero, suc, _+_, _-_, _≤_, _<_}
+use Prim.Native.Nat.{ℕ, zero, suc, _+_, _≤_, _<_}
 use native.Mathlib.Omega.{arith}
 use lib.Dec.{ltb, eqb}
 use borrow.Author.Tests.{eqb-true, eqb-false, eq-eqb, ne-eqb, ltb-true, ltb-false}
 use Rattle.model.specs.declared.Verdict.{Verdict}
 use Rattle.model.specs.Question.{_and_, _or_, pick, every, Question, numberOf, questions, withNumber, questionOf, isNumber, isAnswer, q1, q2}
-use Rattle.model.specs.Question.{q3, q4, q5, q6, q7, q8, q9, q10, q11, q12, q13, q14, q15, q16, q17, q18, q19, q20, q21, q23, Refusal, Outcome}
+use Rattle.model.specs.Question.{q3, q4, q5, q6, q7, q8, q9, q10, q11, q12, q13, q14, q15, q16, q17, q18, q19, q20, q21, q23, q32, q33, Refusal, Outcome}
 use Rattle.model.specs.Question.{ok, refused, ask, then, firstNo, verdictOf, provided, inOrder, AllPassed, FirstRefused, at-once, further}
 use Rattle.model.specs.Question.{FirstNo, refusing}
 
@@ -278,6 +278,8 @@ listed q19 = refl
 listed q20 = refl
 listed q21 = refl
 listed q23 = refl
+listed q32 = refl
+listed q33 = refl
 
 pub answer-of : (n : ℕ) (q : Question) → n ≡ numberOf q → isAnswer n ≡ true
 answer-of n q e =

@@ -23,3 +23,4 @@ pub mod Misreadings
 pub mod Chains
 pub mod Locks
 pub mod Cost
+pub mod Blank

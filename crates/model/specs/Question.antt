@@ -52,6 +52,8 @@ pub data Question : Type 0 where
   q20 : Question  -- does every field's word meet its meaning?
   q21 : Question  -- does each register meet that block's annotation?
   q23 : Question  -- is the field of a store not locked? 02, card 1: 'asked after Q11 and before Q12'
+  q32 : Question  -- are at most 3 rows blank, and is the offered list well made? 02, card 12: 'after Q6 and before Q7'
+  q33 : Question  -- is some choice of offered rows accepted?
 
 abbrev pub numberOf : Question → ℕ
 numberOf q1 = 1
@@ -76,10 +78,13 @@ numberOf q19 = 19
 numberOf q20 = 20
 numberOf q21 = 21
 numberOf q23 = 23
+numberOf q32 = 32
+numberOf q33 = 33
 
 abbrev pub questions : List Question
 questions =
-    q1 ∷ q2 ∷ q3 ∷ q4 ∷ q5 ∷ q6 ∷ q7 ∷ q8 ∷ q9 ∷ q10 ∷ q11 ∷ q12 ∷ q13 ∷ q14 ∷ q15 ∷ q16 ∷ q17 ∷ q18 ∷ q19 ∷ q20 ∷ q21 ∷ q23 ∷ []
+    q1 ∷ q2 ∷ q3 ∷ q4 ∷ q5 ∷ q6 ∷ q7 ∷ q8 ∷ q9 ∷ q10 ∷ q11 ∷ q12 ∷ q13 ∷ q14 ∷ q15 ∷ q16 ∷ q17 ∷ q18 ∷ q19 ∷ q20 ∷ q21 ∷ q23
+    ∷ q32 ∷ q33 ∷ []
 
 -- the first of some questions that has a number, q1 where none has
 abbrev pub withNumber : ℕ → List Question → Question

@@ -20,6 +20,16 @@ pub struct CheckAnswer {
     pub asked: u32,
 }
 
+// What a check returns that chooses rows for blank annotations: its verdict and count, and the place in the offered list of the row for each
+// blank block, the lowest block first.
+pub struct OfferedAnswer {
+    pub number: u32,
+    pub first: u32,
+    pub second: u32,
+    pub asked: u32,
+    pub choice: [u32; 3],
+}
+
 // What a run returns beside the memory that it leaves.
 pub struct RunAnswer {
     pub number: u32,

@@ -1,4 +1,4 @@
-// The bounds of document 01. One that a length or a place is held against is a usize, one that a word of a table is held against a u32.
+// The bounds of documents 01 and 02. One that a length or a place is held against is a usize, one that a word of a table is held against a u32.
 
 // ---- rows
 
@@ -7,6 +7,9 @@ pub const ROW_WORDS: usize = 9;
 
 // 'then 8 type words': one for each field or register.
 pub const TYPE_WORDS: usize = 8;
+
+// 02, card 12: 'annotation rows of eight words': a row of an offered list.
+pub const OFFERED_WORDS: usize = 8;
 
 // 'rows of 2 words: start, record type': a row of the allocations.
 pub const ALLOCATION_WORDS: usize = 2;
@@ -30,6 +33,12 @@ pub const ALLOCATIONS: usize = 4096;
 
 // 'Memory: 1 to 16,384 words'
 pub const MEMORY: usize = 16384;
+
+// 02, card 12: 'Up to 3 rows' may be blank.
+pub const BLANKS: usize = 3;
+
+// 02, card 12: 'a second list offers 0 to 8 annotation rows'
+pub const OFFERED: usize = 8;
 
 // ---- the most that a row may say
 

@@ -33,6 +33,12 @@ pub const BLOCK_LENGTH: u32 = 5;
 // Q6 'Are annotations well made, T existing?'
 pub const ANNOTATION: u32 = 6;
 
+// 02, card 12: '32, at the fourth blank block, else at row 0 for an offered list of wrong length, else at the first offered row badly made'
+pub const OFFERED_ROWS: u32 = 32;
+
+// 02, card 12: '33, at the lowest blank block, exactly when no choice is accepted'
+pub const NO_CHOICE: u32 = 33;
+
 // ---- the code
 
 // Q7 'Known opcode, parts in range, divisor not 0?'
@@ -90,7 +96,7 @@ pub const REGISTER: u32 = 21;
 // ---- all of them
 
 // The numbers of the questions, each after the lesser ones.
-pub fn questions() -> [u32; 22]
+pub fn questions() -> [u32; 24]
     ensures { λ r. ⌜ r ≡ map numberOf questions ⌝ }
 {
     [
@@ -116,5 +122,7 @@ pub fn questions() -> [u32; 22]
         FIELD,
         REGISTER,
         LOCKED_FIELD,
+        OFFERED_ROWS,
+        NO_CHOICE,
     ]
 }

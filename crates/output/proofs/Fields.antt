@@ -1,4 +1,5 @@
--- The fields of a list, appended one after the other.
+-- The fields of a list: appended one after the other, and printable.
+use mathlib.Core.Bool.{true}
 use mathlib.Core.Path.{_≡_, refl, sym, ap, _∙_}
 use mathlib.Core.List.{List, [], _∷_, _++_, append-assoc, append-nil}
 use Prim.Native.Nat.{ℕ, _+_, _<_}
@@ -7,7 +8,9 @@ use lib.ListN.{length, take, getD}
 use lib.Seq.{take-suc, take-length}
 use Rattle.protocol.specs.Text.{field, fields}
 use Rattle.output.specs.Appended.{Appended}
+use Rattle.output.specs.Digits.{printable, allFrom}
 use Rattle.output.proofs.Appending.{after, same-text}
+use Rattle.output.proofs.Decimals.{decimal-printable, all-append}
 
 fields-append : (xs ys : List ℕ) → fields (xs ++ ys) ≡ fields xs ++ fields ys
 unfolding fields
@@ -33,3 +36,8 @@ module _ {a b c : List ℕ} {n m r : ℕ} (l : List ℕ) (i : ℕ) where
 module _ {a b : List ℕ} {n r : ℕ} (l : List ℕ) (i : ℕ) where
   pub all-fields : i ≡ length l → Appended a n (fields (take i l)) r b → Appended a n (fields l) r b
   all-fields e x = same-text (ap fields (ap (λ k. take k l) e ∙ take-length l)) x
+
+pub fields-printable : (l : List ℕ) → printable (fields l) ≡ true
+unfolding fields allFrom
+fields-printable [] = refl
+fields-printable (n ∷ ns) = all-append 32 126 (field n) (fields ns) (decimal-printable n) (fields-printable ns)

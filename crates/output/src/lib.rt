@@ -7,7 +7,7 @@ ghost use Rattle.protocol.specs.Text.{decimal, fields, verdictText, checkText, 
 ghost use Rattle.protocol.specs.Text.{field as fieldText};
 ghost use Rattle.output.specs.Appended.{buffer, Appended};
 ghost use Rattle.output.specs.Digits.{lastDigits};
-use model::CheckAnswer;
+use model::OfferedAnswer;
 use model::RunAnswer;
 use model::Verdict;
 
@@ -155,16 +155,18 @@ pub fn verdict(out: &mut [u8; BUFFER], n: usize, v: Verdict) -> usize
     word(out, b, v.second)
 }
 
-// NUMBER A B ASKED
-pub fn check_answer(out: &mut [u8; BUFFER], n: usize, a: CheckAnswer) -> usize
-    requires { ⌜ n + 53 ≤ buffer ⌝ }
+// NUMBER A B ASKED P0 P1 P2
+pub fn check_answer(out: &mut [u8; BUFFER], n: usize, a: OfferedAnswer) -> usize
+    requires { ⌜ n + 86 ≤ buffer ⌝ }
     ensures { λ r. ⌜ Appended (now (out .entry)) n (checkText a) r (now (out .exit)) ⌝ }
-    ensures { λ r. ⌜ r ≤ n + 53 ⌝ }
+    ensures { λ r. ⌜ r ≤ n + 86 ⌝ }
 {
     let b = number(out, n, a.number as u64);
     let c = word(out, b, a.first);
     let d = word(out, c, a.second);
-    word(out, d, a.asked)
+    let e = word(out, d, a.asked);
+    let choice = a.choice;
+    words(out, e, &choice)
 }
 
 // NUMBER BLOCK INDEX FINISHED R0 .. R7 COUNT WORDS..

@@ -5,7 +5,7 @@ use lib.Dec.{ltb}
 use lib.ListN.{length}
 use Rattle.model.specs.Question.{pick}
 use Rattle.model.specs.declared.Verdict.{Verdict}
-use Rattle.model.specs.declared.CheckAnswer.{CheckAnswer}
+use Rattle.model.specs.declared.OfferedAnswer.{OfferedAnswer}
 use Rattle.model.specs.declared.RunAnswer.{RunAnswer}
 use Rattle.grammar.specs.Codes.{codes}
 
@@ -39,9 +39,9 @@ fields (n ∷ ns) = field n ++ fields ns
 abbrev pub verdictText : Verdict → List ℕ
 verdictText v = decimal (v .number) ++ (field (v .first) ++ field (v .second))
 
--- NUMBER A B ASKED
-abbrev pub checkText : CheckAnswer → List ℕ
-checkText a = decimal (a .number) ++ (field (a .first) ++ (field (a .second) ++ field (a .asked)))
+-- NUMBER A B ASKED P0 P1 P2
+abbrev pub checkText : OfferedAnswer → List ℕ
+checkText a = decimal (a .number) ++ (field (a .first) ++ (field (a .second) ++ (field (a .asked) ++ fields (a .choice))))
 
 -- NUMBER BLOCK INDEX FINISHED R0 .. R7 COUNT WORDS..
 abbrev pub runText : RunAnswer → List ℕ → List ℕ

@@ -14,10 +14,10 @@ fn heading(out: &mut [u8; output::BUFFER], n: usize) -> usize {
           \n\
           A check answers 0 where no question has a no, else the number of the first question with a no; a run answers 0 where it\n\
           halted, 40 where it paused, else the number of the question that stopped it. Two numbers for the place follow, A and B;\n\
-          after a `check` a third, how many fit questions it put.\n\
+          after a `check` then how many fit questions it put, and three for the offered rows that it chose for blank annotations.\n\
           \n\
-          `ramdulsi --words` adds name, meaning and place to each answer, and to a check its count. The program `refusals` writes this\n\
-          text from the same table (`crates/words`), and the gate runs it.\n\
+          `ramdulsi --words` adds name, meaning and place to each answer, to a check its count, and to one that chose rows these. The\n\
+          program `refusals` writes this text from the same table (`crates/words`), and the gate runs it.\n\
           \n",
     )
 }

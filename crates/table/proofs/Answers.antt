@@ -141,13 +141,14 @@ module _ (types tags : List ℕ) (t n : ℕ) (e : n ≡ headOf types t) where
   unfolding rowWell placeWell fieldWell tablesOf every _or_ _and_
   fields-are = rw e
 
-  pub fields-yes : every 8 0 (rowWell (rows types) n true (wordsOf types t)) ≡ true → fieldsAsk (tablesOf types tags) t ≡ ok tt
-  unfolding fieldsAsk provided
-  fields-yes h = rw (← fields-are, h)
+  module _ (own : List ℕ) (eo : own ≡ wordsOf types t) where
+    pub fields-yes : every 8 0 (rowWell (rows types) n true own) ≡ true → fieldsAsk (tablesOf types tags) t ≡ ok tt
+    unfolding fieldsAsk provided
+    fields-yes h = rw (← fields-are, ← eo, h)
 
-  pub fields-no : every 8 0 (rowWell (rows types) n true (wordsOf types t)) ≡ false → fieldsAsk (tablesOf types tags) t ≡ refused (refusal q3 t 0)
-  unfolding fieldsAsk provided
-  fields-no h = rw (← fields-are, h)
+    pub fields-no : every 8 0 (rowWell (rows types) n true own) ≡ false → fieldsAsk (tablesOf types tags) t ≡ refused (refusal q3 t 0)
+    unfolding fieldsAsk provided
+    fields-no h = rw (← fields-are, ← eo, h)
 
 module _ (types tags : List ℕ) (k : ℕ) where
   pub tag-yes : getD tags k 0 < rows types → tagAsk (tablesOf types tags) k ≡ ok tt
@@ -228,15 +229,16 @@ module _ (blocks starts : List ℕ) where
 
 -- ---- Q6
 
-module _ (count : ℕ) (blocks : List ℕ) (b : ℕ) where
-  annotation-is : every 8 0 (rowWell count 8 false (wordsOf blocks b)) ≡ every 8 0 (λ r. annotationWell count (getD (wordsOf blocks b) r 0))
-  unfolding rowWell placeWell annotationWell every _or_
-  annotation-is = refl
+pub annotation-is : (count : ℕ) (words : List ℕ) → every 8 0 (rowWell count 8 false words) ≡ every 8 0 (λ f. annotationWell count (getD words f 0))
+unfolding rowWell placeWell annotationWell every _or_
+annotation-is count words = refl
 
-  pub annotation-yes : every 8 0 (rowWell count 8 false (wordsOf blocks b)) ≡ true → annotationAsk count blocks b ≡ ok tt
+-- own is the words of block b's row
+module _ (count : ℕ) (blocks own : List ℕ) (b : ℕ) (e : own ≡ wordsOf blocks b) where
+  pub annotation-yes : every 8 0 (λ f. annotationWell count (getD own f 0)) ≡ true → annotationAsk count blocks b ≡ ok tt
   unfolding annotationAsk provided
-  annotation-yes h = rw (← annotation-is, h)
+  annotation-yes h = rw (← e, h)
 
-  pub annotation-no : every 8 0 (rowWell count 8 false (wordsOf blocks b)) ≡ false → annotationAsk count blocks b ≡ refused (refusal q6 b 0)
+  pub annotation-no : every 8 0 (λ f. annotationWell count (getD own f 0)) ≡ false → annotationAsk count blocks b ≡ refused (refusal q6 b 0)
   unfolding annotationAsk provided
-  annotation-no h = rw (← annotation-is, h)
+  annotation-no h = rw (← e, h)

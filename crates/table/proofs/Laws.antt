@@ -2,11 +2,11 @@
 use mathlib.Core.Path.{_≡_, refl, ap, sym, _∙_}
 use mathlib.Core.Bool.{Bool, true}
 use mathlib.Core.List.{List}
-use Prim.Native.Nat.{ℕ, zero, suc, _+_, _*_, _/_, _%_, _<_, _≤_}
+use Prim.Native.Nat.{ℕ, zero, suc, _+_, _-_, _*_, _/_, _%_, _<_, _≤_}
 use native.Mathlib.Numerals.{add-one}
 use native.Mathlib.Omega.{arith}
-use lib.ListN.{length, take, drop, getD, length-take, length-drop}
-use lib.Seq.{getD-take, getD-drop}
+use lib.ListN.{length, take, drop, getD, length-drop}
+use lib.Seq.{take-all}
 use lib.Dec.{ltb, leb, eqb}
 use borrow.Author.Tests.{lt-ltb, le-ltb, le-leb, ne-eqb, leb-true, ltb-true, eqb-true}
 use Rattle.model.specs.declared.Verdict.{Verdict}
@@ -15,33 +15,27 @@ use Rattle.model.specs.Word.{kindOf, recordOf, firstOf, secondOf}
 use Rattle.model.specs.Table.{rowOf, rows, headOf, wordsOf, startOf, tablesOf, routineOf, wholeRows, typeLengthsAsk, codeLengthsAsk, countAsk}
 use Rattle.model.specs.Table.{fieldWell, fieldsAsk, tagAsk, typesAsk, usesRecord, usesFirst, usesSecond, dependency, wellMade, blocksAsk, lengthsAsk}
 use Rattle.model.specs.Table.{annotationWell, annotationAsk, annotationsAsk, startAsk, typesQuestions, Code}
+pub use Rattle.model.proofs.Rows.{row-length, row-at, head-at, word-in-row, word-at, words-length}
 use Rattle.model.proofs.Logic.{either, byEqual, and-true, or-true, ask-ok, every-true, firstNo-ok, all-passed}
 use Rattle.table.proofs.Questions.{no-refusal}
 
 -- ---- rows
 
-module _ (table : List ℕ) (k : ℕ) where
-  pub row-length : k * 9 + 9 ≤ length table → length (rowOf table k) ≡ 9
-  unfolding rowOf
-  row-length h = simp (length-take, length-drop) (omega arith)
+-- what is taken of a table as its row, and the type words as a part of it
+module _ (table own : List ℕ) (k : ℕ) where
+  pub part-is : own ≡ rowOf table k → take (length own - 1) (drop 1 own) ≡ wordsOf table k
+  part-is e = rw e (take-all (length (rowOf table k) - 1) (drop 1 (rowOf table k)) (omega (arith, length-drop 1 (rowOf table k))))
 
-  pub row-at : (j : ℕ) → j < 9 → getD (rowOf table k) j 0 ≡ getD table (k * 9 + j) 0
-  unfolding rowOf
-  row-at j h = rw (getD-take, getD-drop)
+  module _ (h : k * 9 + 9 ≤ length table) where
+    pub part-length : own ≡ rowOf table k → length (take (length own - 1) (drop 1 own)) ≡ 8
+    part-length e = ap length (part-is e) ∙ words-length table k h
 
-  -- the number of a row stands at its start
-  pub head-at : headOf table k ≡ getD table (k * 9) 0
-  head-at = row-at 0 (omega arith) ∙ ap (λ (i : ℕ). getD table i 0) (omega arith)
+    pub row-words : own ≡ rowOf table k → length own ≡ 9
+    row-words e = ap length e ∙ row-length table k h
 
-  -- type word j of a row is its word j + 1
-  pub word-in-row : (j : ℕ) → getD (wordsOf table k) j 0 ≡ getD (rowOf table k) (j + 1) 0
-  word-in-row j = getD-drop 1 (rowOf table k) j 0 ∙ ap (λ (i : ℕ). getD (rowOf table k) i 0) (omega arith)
-
-  pub word-at : (j : ℕ) → j < 8 → getD (wordsOf table k) j 0 ≡ getD table (k * 9 + (j + 1)) 0
-  word-at j h = word-in-row j ∙ row-at (j + 1) (omega arith)
-
-  pub words-length : k * 9 + 9 ≤ length table → length (wordsOf table k) ≡ 8
-  words-length h = simp length-drop (omega (arith, row-length h))
+    -- the words alone
+    pub own-eight : own ≡ wordsOf table k → length own ≡ 8
+    own-eight e = ap length e ∙ words-length table k h
 
 -- a row below the count lies in the table
 pub row-inside : (n k : ℕ) → k < n / 9 → k * 9 + 9 ≤ n

@@ -7,7 +7,7 @@ ghost use lib.Dec.{ltb, leb, eqb};
 ghost use Rattle.model.specs.Question.{_and_, pick, every, firstNo, verdictOf};
 ghost use Rattle.model.specs.Word.{kindOf};
 ghost use Rattle.model.specs.Table.{rowOf, rows, headOf, wordsOf, tablesOf, startOf, wholeRows, typeLengthsAsk, codeLengthsAsk, countAsk, usesRecord};
-ghost use Rattle.model.specs.Table.{dependency, wellMade, fieldsAsk, tagAsk, typesAsk, lengthsAsk, annotationsAsk};
+ghost use Rattle.model.specs.Table.{dependency, wellMade, fieldsAsk, tagAsk, typesAsk, lengthsAsk, annotationWell, annotationsAsk};
 ghost use Rattle.table.specs.Row.{placeWell, rowWell};
 use model::Verdict;
 use model::limit;
@@ -46,6 +46,15 @@ pub fn type_word(table: &[u32], k: usize, j: usize) -> u32
 {
     let own = row(table, k);
     own[j + 1]
+}
+
+// The type words of row k, as a part of the table.
+pub fn type_words(table: &[u32], k: usize) -> &[u32]
+    requires { ⌜ k * 9 + 9 ≤ length (now table) ⌝ }
+    ensures { λ r. ⌜ now r ≡ wordsOf (now (table .entry)) k ⌝ }
+{
+    let own = row(table, k);
+    &own[1..]
 }
 
 // ---- Q1
@@ -183,14 +192,14 @@ fn place_well(count: u32, n: u32, marks: bool, f: usize, w: u32) -> bool
     well_made(count, n, w)
 }
 
-// Whether the eight type words of row k are well made.
-fn words_well(table: &[u32], k: usize, count: u32, n: u32, marks: bool) -> bool
-    requires { ⌜ k * 9 + 9 ≤ length (now table) ⌝ }
-    ensures { λ r. ⌜ r ≡ every 8 0 (rowWell count n marks (wordsOf (now (table .entry)) k)) ⌝ }
+// Whether the eight type words of a row are well made.
+fn words_well(words: &[u32], count: u32, n: u32, marks: bool) -> bool
+    requires { ⌜ length (now words) ≡ 8 ⌝ }
+    ensures { λ r. ⌜ r ≡ every 8 0 (rowWell count n marks (now (words .entry))) ⌝ }
 {
     let mut f = 0;
     while f < limit::TYPE_WORDS {
-        if !place_well(count, n, marks, f, type_word(table, k, f)) {
+        if !place_well(count, n, marks, f, words[f]) {
             return false;
         }
         f += 1;
@@ -228,7 +237,7 @@ fn field_words(types: &[u32]) -> Verdict
     let count = types.len() / limit::ROW_WORDS;
     let mut t = 0;
     while t < count {
-        if !words_well(types, t, count as u32, head(types, t), true) {
+        if !words_well(type_words(types, t), count as u32, head(types, t), true) {
             return answer::refused(number::FIELD_TYPE, t);
         }
         t += 1;
@@ -311,7 +320,15 @@ pub fn lengths(blocks: &[u32], code: &[u32], starts: &mut [u32; limit::BLOCKS + 
     answer::passed()
 }
 
-// Q6, over count record types. A register is no field, and its word has no mark.
+// Whether eight type words are an annotation over count record types. A register is no field, and its word has no mark.
+pub fn annotation_well(words: &[u32], count: u32) -> bool
+    requires { ⌜ length (now words) ≡ 8 ⌝ }
+    ensures { λ r. ⌜ r ≡ every 8 0 (λ f. annotationWell count (getD (now (words .entry)) f 0)) ⌝ }
+{
+    words_well(words, count, NAMES, false)
+}
+
+// Q6, over count record types.
 pub fn annotations(count: u32, blocks: &[u32]) -> Verdict
     requires { ⌜ length (now blocks) ≤ 2304 ⌝ }
     ensures { λ r. ⌜ r ≡ verdictOf (annotationsAsk count (now (blocks .entry))) ⌝ }
@@ -319,7 +336,7 @@ pub fn annotations(count: u32, blocks: &[u32]) -> Verdict
     let total = blocks.len() / limit::ROW_WORDS;
     let mut b = 0;
     while b < total {
-        if !words_well(blocks, b, count, NAMES, false) {
+        if !annotation_well(type_words(blocks, b), count) {
             return answer::refused(number::ANNOTATION, b);
         }
         b += 1;

@@ -1,7 +1,7 @@
 -- Laws of a block read to its end, of all blocks, and of the check.
 use mathlib.Core.Path.{_≡_, refl, sym, ap, _∙_}
 use mathlib.Core.Bool.{Bool, true, false}
-use mathlib.Core.List.{List, [], _∷_}
+use mathlib.Core.List.{List, [], _∷_, _++_}
 use Prim.Native.Nat.{ℕ, zero, suc, _+_, _-_, _*_, _%_, _<_, _≤_}
 use native.Mathlib.Numerals.{add-one}
 use native.Mathlib.Nat.{sub-zero, zero-add, add-zero}
@@ -10,25 +10,30 @@ use lib.ListN.{length, getD, take, drop, replicate, length-take, length-drop}
 use borrow.Author.Tests.{eq-eqb, ne-eqb}
 use Rattle.model.specs.declared.Verdict.{Verdict}
 use Rattle.model.specs.declared.CheckAnswer.{CheckAnswer}
-use Rattle.model.specs.Question.{Question, isAnswer, Refusal, Outcome, ok, refused, then, firstNo, passed, verdictOf}
-use Rattle.model.specs.Table.{Tables, tablesOf, Code, codeOf, Routine, routineOf, rows, headOf, wordsOf, startOf, lastAt}
+use Rattle.model.specs.Question.{Question, isAnswer, Refusal, Outcome, ok, refused, then, inOrder, firstNo, passed, verdictOf}
+use Rattle.model.specs.Table.{Tables, tablesOf, Code, codeOf, Routine, routineOf, rows, headOf, startOf, lastAt, annotationsAsk}
 use Rattle.model.specs.Machine.{decode, targetsExist}
 use Rattle.model.specs.Reading.{Reading, laidAt, zeros, upFrom, entry}
-use Rattle.model.specs.Check.{noAt, readInstruction, readAt, readOn, blockAsk, judge, tableQuestions, tablesAsk, checkAsk, check}
+use Rattle.model.specs.Check.{noAt, readInstruction, readAt, readOn, blockAsk, judge, tablesAsk, checkAsk, check}
+use Rattle.model.specs.Blank.{inForce}
 use Rattle.model.specs.Cost.{past, instructionAsked, askedAt, sumOn, sumIn, sumFrom, sumOf, counting, checkAnswer}
-use Rattle.model.proofs.Logic.{byLess, byEqual, number-of, answer-number, all-passed, ok-verdict}
+use Rattle.model.proofs.Logic.{byLess, byEqual, number-of, answer-number, all-passed, in-order-append, ok-verdict}
 use Rattle.model.proofs.Cost.{inside-bound, past-ok, past-no}
-use Rattle.table.proofs.Laws.{row-inside, start-more, routine-annotation, type-lengths-passed, code-lengths-passed, size-bounds, block-bounds}
-use Rattle.table.proofs.Questions.{left, ComesTo, then-on, then-stops, no-refusal, first-on, first-no, first-end}
+use Rattle.table.proofs.Laws.{row-inside, start-more, routine-count, routine-long, routine-start, routine-annotation, routine-part}
+use Rattle.table.proofs.Laws.{type-lengths-passed, code-lengths-passed, size-bounds, block-bounds}
+use Rattle.table.proofs.Questions.{left, ComesTo, at-last, then-on, then-stops, no-refusal, first-on, first-no, first-end}
+use Rattle.blank.specs.declared.Filling.{Filling}
+use Rattle.blank.specs.Force.{list, unfilled, Fits}
 use Rattle.instruction.specs.Form.{endOf, targetOf}
 use Rattle.instruction.proofs.Laws.{target-exists, next-exists}
 use Rattle.known.specs.Numbers.{framesOf}
-use Rattle.access.specs.State.{viewsOf, reading, Sizes, numbered}
+use Rattle.access.specs.State.{viewsOf, reading, numbered}
 use Rattle.access.proofs.Outcomes.{numbered-ok, numbered-no}
 use Rattle.access.proofs.Fields.{size-past}
 use Rattle.branch.specs.End.{EdgeRows}
 use Rattle.verify.specs.declared.Stopped.{Stopped}
-use Rattle.verify.specs.Blocks.{BlockAt, begun, LeftAt, ReadSoFar, verdictAt, askedIn, judged}
+use Rattle.verify.specs.Blocks.{Starts, firstQuestions, firstAsk, Tabled, Annotated, Divided, BlockAt, begun, LeftAt, ReadSoFar, verdictAt}
+use Rattle.verify.specs.Blocks.{askedIn, judged}
 
 -- ---- counts past questions
 
@@ -186,16 +191,20 @@ module _ (blocks : List ℕ) (b w : ℕ) (h : targetsExist (rows blocks) b (endO
   pub target-row : b * 9 + 9 ≤ length blocks → (t : ℕ) → t ≡ targetOf (endOf w) → t * 9 + 9 ≤ length blocks
   target-row l t e = row-inside (length blocks) t (omega (arith, target-exists (rows blocks) b (endOf w) h (omega arith)))
 
-  pub leads : (t k : ℕ) → t ≡ targetOf (endOf w) → (b + 1 < rows blocks → k ≡ b + 1) → (row row′ : List ℕ) → row ≡ wordsOf blocks t
-      → row′ ≡ wordsOf blocks k → (code : List ℕ) → EdgeRows (routineOf (codeOf blocks code)) b (endOf w) row row′
-  leads t k et ek row row′ er er′ code =
-      record {
-        target = routine-annotation (codeOf blocks code) _ ∙ ap (wordsOf blocks) (sym et) ∙ sym er;
-        next = λ f.
-            routine-annotation (codeOf blocks code) _
-            ∙ ap (wordsOf blocks) (sym (ek (next-exists (rows blocks) b (endOf w) h f) ∙ add-one b))
-            ∙ sym er′;
-      }
+  -- P has for its annotations the rows in force
+  module _ (P : Routine) (offered : List ℕ) (f : Filling) (A : Annotated P blocks offered f) (l : b * 9 + 9 ≤ length blocks) where
+    abbrev force : ℕ → List ℕ
+    force = inForce blocks offered (list (f .blanks)) (list (f .places))
+
+    pub leads : (t k : ℕ) → t ≡ targetOf (endOf w) → (b + 1 < rows blocks → k ≡ b + 1) → (row row′ : List ℕ) → row ≡ force t → row′ ≡ force k
+        → EdgeRows P b (endOf w) row row′
+    leads t k et ek row row′ er er′ =
+        record {
+          target = A .annotation _ (target-exists (rows blocks) b (endOf w) h (omega arith)) ∙ ap force (sym et) ∙ sym er;
+          next = λ x.
+              let more = next-exists (rows blocks) b (endOf w) h x in
+              A .annotation (suc b) (omega arith) ∙ ap force (sym (ek more ∙ add-one b)) ∙ sym er′;
+        }
 
 -- ---- a block
 
@@ -210,10 +219,10 @@ no-views zero = refl
 no-views (suc n) = ap {B = List ℕ} (λ (r : List ℕ). 0 ∷ r) (no-views n)
 
 -- the reading that the locals of the block's function make at its beginning
-pub block-begins : (C : Code) (b : ℕ) (words : List ℕ) → words ≡ laidAt (replicate 256 0) 0 (wordsOf (C .blocks) b)
-    → begun (0 ∷ 1 ∷ 2 ∷ 3 ∷ 4 ∷ 5 ∷ 6 ∷ 7 ∷ []) words (replicate 32 0) (replicate 32 0) ≡ entry (routineOf C .annotation b)
-unfolding entry routineOf zeros upFrom
-block-begins C b words ew = rw (ew, no-frames 32, no-views 256)
+pub block-begins : (P : Routine) (b : ℕ) (words own : List ℕ) → words ≡ laidAt (replicate 256 0) 0 own → P .annotation b ≡ own
+    → begun (0 ∷ 1 ∷ 2 ∷ 3 ∷ 4 ∷ 5 ∷ 6 ∷ 7 ∷ []) words (replicate 32 0) (replicate 32 0) ≡ entry (P .annotation b)
+unfolding entry zeros upFrom
+block-begins P b words own ew eo = rw (ew, eo, no-frames 32, no-views 256)
 
 module _ {𝒯 : Tables} {P : Routine} {b first : ℕ} {part : List ℕ} (B : BlockAt P b first part) {st : Reading} {r : Stopped}
     {registers words frames constants : List ℕ} (S : ReadSoFar 𝒯 P b st r registers words frames constants) where
@@ -267,12 +276,10 @@ module _ {𝒯 : Tables} {P : Routine} {b first : ℕ} {part : List ℕ} (B : Bl
 pub record BlocksLeft (𝒯 : Tables) (P : Routine) (n asked b : ℕ) : Type 0 where
   pub rest : judge 𝒯 P ≡ firstNo (n - b) b (blockAsk 𝒯 P)
   pub count : sumFrom 𝒯 P (askedAt 𝒯 P) (P .count) 0 ≡ asked + sumFrom 𝒯 P (askedAt 𝒯 P) (n - b) b
-  pub within : b ≤ n
-  pub few : asked ≤ 512 * b
 
-pub judge-begins : (𝒯 : Tables) (C : Code) → BlocksLeft 𝒯 (routineOf C) (rows (C .blocks)) 0 0
-unfolding judge routineOf
-judge-begins 𝒯 C = record { rest = rw sub-zero; count = rw sub-zero (sym (zero-add _)); within = omega arith; few = omega arith }
+pub judge-begins : (𝒯 : Tables) (P : Routine) (n : ℕ) → P .count ≡ n → BlocksLeft 𝒯 P n 0 0
+unfolding judge
+judge-begins 𝒯 P n e = record { rest = rw (e, sub-zero); count = rw (e, sub-zero) (sym (zero-add _)) }
 
 module _ {𝒯 : Tables} {P : Routine} {n asked b : ℕ} (l : BlocksLeft 𝒯 P n asked b) where
   one-block : b < n → sumFrom 𝒯 P (askedAt 𝒯 P) (n - b) b ≡ askedIn 𝒯 P b + past (blockAsk 𝒯 P b) (λ _. sumFrom 𝒯 P (askedAt 𝒯 P) (n - (b + 1)) (b + 1))
@@ -291,17 +298,15 @@ module _ {𝒯 : Tables} {P : Routine} {n asked b : ℕ} (l : BlocksLeft 𝒯 P 
     number-is : v .number ≡ verdictOf (blockAsk 𝒯 P b) .number
     number-is = ap (λ (u : CheckAnswer). u .number) ev
 
-    asked-is : v .asked ≡ asked + askedIn 𝒯 P b
+    pub asked-is : v .asked ≡ asked + askedIn 𝒯 P b
     asked-is = ap (λ (u : CheckAnswer). u .asked) ev
 
-    pub judge-on : v .number ≡ 0 → askedIn 𝒯 P b ≤ 512 → BlocksLeft 𝒯 P n (v .asked) (b + 1)
-    judge-on z few =
+    pub judge-on : v .number ≡ 0 → BlocksLeft 𝒯 P n (v .asked) (b + 1)
+    judge-on z =
         let yes = no-refusal (blockAsk 𝒯 P b) _ refl (sym number-is ∙ z) in
         record {
           rest = first-on _ n b _ (l .rest) h yes;
           count = omega (arith, l .count, one-block h, asked-is, past-ok (blockAsk 𝒯 P b) (λ _. sumFrom 𝒯 P (askedAt 𝒯 P) (n - (b + 1)) (b + 1)) tt yes);
-          within = omega arith;
-          few = omega (arith, l .few, asked-is);
         }
 
     pub judge-stops : (v .number ≡ 0 → ⊥) → v ≡ judged 𝒯 P
@@ -318,22 +323,16 @@ sizes-small : (types : List ℕ) → length types % 9 ≡ 0 → ((t : ℕ) → t
 sizes-small types e h t =
     byLess t (rows types) (λ l. h t l .1) (λ l. let z : 0 ≡ headOf types t = size-past types t (omega arith) in omega arith)
 
--- what passed tables give
-pub record Tabled (types : List ℕ) (C : Code) : Type 0 where
-  pub sizes : Sizes types
-  pub most : length (C .blocks) ≤ 2304
-  pub long : length (C .code) ≤ 8192
-  pub bounds : (b : ℕ) → b < rows (C .blocks)
-      → (1 ≤ headOf (C .blocks) b) × (headOf (C .blocks) b ≤ 32) × (startOf (C .blocks) b + headOf (C .blocks) b ≤ length (C .code))
-
-pub tabled : (types tags : List ℕ) (C : Code) → tablesAsk types tags C ≡ ok tt → Tabled types C
-unfolding tablesAsk
+-- Q1 to Q5 passed
+pub tabled : (types tags : List ℕ) (C : Code) → firstAsk types tags C ≡ ok tt → Tabled types C
+unfolding firstAsk
 tabled types tags C q =
-    let (t, (c, (s, (l, rest)))) = all-passed (tableQuestions types tags C) q in
+    let (t, (c, (s, (l, rest)))) = all-passed (firstQuestions types tags C) q in
     let T = type-lengths-passed (length types) (length tags) _ refl (ok-verdict _ t) in
     let L = code-lengths-passed (length (C .blocks)) (length (C .code)) _ refl (ok-verdict _ c) in
     record {
       sizes = record { whole = T .whole; small = sizes-small types (T .whole) (size-bounds types tags _ refl (ok-verdict _ s)) };
+      typed = T .most;
       most = L .most;
       long = L .long;
       bounds = block-bounds (C .blocks) (length (C .code)) l;
@@ -348,20 +347,101 @@ module _ (blocks code : List ℕ) (b first end : ℕ) (ef : first ≡ startOf bl
   pub block-long : length (take (end - first) (drop first code)) ≡ headOf blocks b
   block-long = simp (length-take, length-drop) (omega (arith, long))
 
-  pub block-at : BlockAt (routineOf (codeOf blocks code)) b first (take (end - first) (drop first code))
-  unfolding routineOf
-  block-at = record { start = sym ef; code = rw (long, ef); long = sym block-long }
+  pub block-at : (P : Routine) → Divided P (codeOf blocks code) → BlockAt P b first (take (end - first) (drop first code))
+  block-at P D =
+      record { start = D .start b ∙ sym ef; code = D .part b ∙ rw (long, ef); long = D .long b ∙ sym block-long }
+
+-- where the code of block b is, by the starts of blocks
+pub record Placed (C : Code) (first end b : ℕ) : Type 0 where
+  pub from : first ≡ startOf (C .blocks) b
+  pub to : end ≡ startOf (C .blocks) (b + 1)
+  pub long : end ≡ first + headOf (C .blocks) b
+  pub least : 1 ≤ headOf (C .blocks) b
+  pub most : headOf (C .blocks) b ≤ 32
+  pub inside : first + headOf (C .blocks) b ≤ length (C .code)
+  pub whole : length (C .code) ≤ 8192
+
+pub placed-at : {types : List ℕ} (C : Code) (starts : List ℕ) (b : ℕ) → Tabled types C → Starts (C .blocks) starts → b < rows (C .blocks)
+    → Placed C (getD starts b 0) (getD starts (b + 1) 0) b
+placed-at C starts b T S h =
+    let (least, most, in-code) = T .bounds b h in
+    let from = S b (omega arith) in
+    let to = S (b + 1) (omega arith) in
+    record {
+      from = from;
+      to = to;
+      long = omega (arith, start-more (C .blocks) b);
+      least = least;
+      most = most;
+      inside = omega arith;
+      whole = T .long;
+    }
+
+-- ---- the routine with the rows in force, and that of tables where no row is filled
+
+abbrev pub inForceOf : Code → List ℕ → Filling → Routine
+inForceOf C offered f =
+    record {
+      count = rows (C .blocks);
+      long = λ b. headOf (C .blocks) b;
+      start = λ b. startOf (C .blocks) b;
+      annotation = λ b. inForce (C .blocks) offered (list (f .blanks)) (list (f .places)) b;
+      part = λ b. take (headOf (C .blocks) b) (drop (startOf (C .blocks) b) (C .code));
+      total = length (C .code);
+    }
+
+module _ (C : Code) (offered : List ℕ) where
+  pub force-annotated : (f : Filling) → Annotated (inForceOf C offered f) (C .blocks) offered f
+  force-annotated f = record { count = refl; annotation = λ b h. refl }
+
+  pub force-divided : (f : Filling) → Divided (inForceOf C offered f) C
+  force-divided f = record { long = λ b. refl; start = λ b. refl; part = λ b. refl }
+
+  -- a block below 256 is none of those that are not there
+  pub own-annotated : length (C .blocks) ≤ 2304 → Annotated (routineOf C) (C .blocks) offered unfilled
+  own-annotated most =
+      record { count = routine-count C; annotation = λ b h. routine-annotation C b ∙ rw (ne-eqb b 256 (λ (e : b ≡ 256). omega arith)) }
+
+  pub own-fits : Fits unfilled offered
+  own-fits = record { first = λ h. absurd (omega arith); second = λ h. absurd (omega arith); third = λ h. absurd (omega arith) }
+
+pub own-divided : (C : Code) → Divided (routineOf C) C
+own-divided C = record { long = routine-long C; start = routine-start C; part = routine-part C }
 
 -- ---- the check
 
 module _ (types tags : List ℕ) (C : Code) where
-  -- past k questions, those left come to what all come to
-  abbrev pub TablesPast : ℕ → Type 0
-  TablesPast k = ComesTo (verdictOf (tablesAsk types tags C)) (drop k (tableQuestions types tags C))
+  -- past k of Q1 to Q5, those left come to what all come to
+  abbrev pub FirstPast : ℕ → Type 0
+  FirstPast k = ComesTo (verdictOf (firstAsk types tags C)) (drop k (firstQuestions types tags C))
 
-  pub tables-begin : TablesPast 0
+  pub first-begin : FirstPast 0
+  unfolding firstAsk
+  first-begin = record { asked = refl }
+
+  -- the same with others after them
+  module _ (rest : List (Outcome (Unit {0}))) (v : Verdict) (e : v ≡ verdictOf (firstAsk types tags C)) where
+    pub first-stops : (v .number ≡ 0 → ⊥) → v ≡ verdictOf (inOrder (firstQuestions types tags C ++ rest))
+    unfolding firstAsk
+    first-stops n = then-stops _ _ v e n ∙ ap verdictOf (sym (in-order-append (firstQuestions types tags C) rest))
+
+    pub past-first : v .number ≡ 0 → ComesTo (verdictOf (inOrder (firstQuestions types tags C ++ rest))) rest
+    unfolding firstAsk
+    past-first z = record { asked = ap verdictOf (in-order-append (firstQuestions types tags C) rest) ∙ then-on _ _ v e z }
+
+  abbrev lastQuestion : List (Outcome (Unit {0}))
+  lastQuestion = annotationsAsk (rows types) (C .blocks) ∷ []
+
+  tables-are : verdictOf (inOrder (firstQuestions types tags C ++ lastQuestion)) ≡ verdictOf (tablesAsk types tags C)
   unfolding tablesAsk
-  tables-begin = record { asked = refl }
+  tables-are = refl
+
+  module _ (v : Verdict) (e : v ≡ verdictOf (firstAsk types tags C)) where
+    pub tables-stop : (v .number ≡ 0 → ⊥) → v ≡ verdictOf (tablesAsk types tags C)
+    tables-stop n = first-stops lastQuestion v e n ∙ tables-are
+
+    pub tables-on : v .number ≡ 0 → (u : Verdict) → u ≡ verdictOf (annotationsAsk (rows types) (C .blocks)) → u ≡ verdictOf (tablesAsk types tags C)
+    tables-on z u eu = at-last (past-first lastQuestion v e z) eu ∙ tables-are
 
   module _ (v : Verdict) (e : v ≡ verdictOf (tablesAsk types tags C)) where
     pub check-stops : (v .number ≡ 0 → ⊥) → counting v 0 ≡ checkAnswer types tags C
@@ -370,12 +450,9 @@ module _ (types tags : List ℕ) (C : Code) where
         ap (λ (u : Verdict). counting u 0) (then-stops (tablesAsk types tags C) _ v e n)
         ∙ ap (counting (check types tags C)) (sym (past-refused (tablesAsk types tags C) _ (λ z. n (ap (λ (u : Verdict). u .number) e ∙ z))))
 
-    pub tables-passed : v .number ≡ 0 → tablesAsk types tags C ≡ ok tt
-    tables-passed z = no-refusal (tablesAsk types tags C) v e z
-
     pub check-judges : v .number ≡ 0 → judged (tablesOf types tags) (routineOf C) ≡ checkAnswer types tags C
     unfolding checkAnswer check checkAsk sumOf
     check-judges z =
         let asked = sumFrom (tablesOf types tags) (routineOf C) (askedAt (tablesOf types tags) (routineOf C)) (routineOf C .count) 0 in
         ap (λ (u : Verdict). counting u asked) (sym (then-on (tablesAsk types tags C) _ v e z))
-        ∙ ap (counting (check types tags C)) (sym (past-ok (tablesAsk types tags C) _ tt (tables-passed z)))
+        ∙ ap (counting (check types tags C)) (sym (past-ok (tablesAsk types tags C) _ tt (no-refusal (tablesAsk types tags C) v e z)))

@@ -1,23 +1,62 @@
 -- How far the code has read a block, and what it was lent of the routine.
 use mathlib.Core.Path.{_≡_}
 use mathlib.Core.Bool.{true}
-use mathlib.Core.List.{List}
+use mathlib.Core.List.{List, [], _∷_}
 use Prim.Native.Nat.{ℕ, _+_, _≤_, _<_}
 use lib.Dec.{eqb}
-use lib.ListN.{length, getD, replicate}
+use lib.ListN.{length, getD, take, drop, replicate}
 use Rattle.model.specs.declared.Verdict.{Verdict}
 use Rattle.model.specs.declared.CheckAnswer.{CheckAnswer}
-use Rattle.model.specs.Question.{pick, isAnswer, then, passed, verdictOf}
-use Rattle.model.specs.Table.{Tables, Routine, rows, startOf}
+use Rattle.model.specs.Question.{pick, isAnswer, Outcome, then, inOrder, passed, verdictOf}
+use Rattle.model.specs.Table.{Tables, Code, Routine, rows, headOf, startOf, typeLengthsAsk, codeLengthsAsk, typesAsk, lengthsAsk}
 use Rattle.model.specs.Reading.{Reading}
 use Rattle.model.specs.Check.{noAt, readOn, judge}
 use Rattle.model.specs.Cost.{past, askedAt, sumOn, sumIn, sumFrom, counting}
-use Rattle.access.specs.State.{reading, numbered}
+use Rattle.model.specs.Blank.{inForce}
+use Rattle.blank.specs.declared.Filling.{Filling}
+use Rattle.blank.specs.Force.{list}
+use Rattle.access.specs.State.{reading, numbered, Sizes}
 use Rattle.verify.specs.declared.Stopped.{Stopped}
 
 -- starts has where each block starts, and after the last where the code ends
 abbrev pub Starts : List ℕ → List ℕ → Type 0
 Starts blocks starts = (b : ℕ) → b ≤ rows blocks → getD starts b 0 ≡ startOf blocks b
+
+-- ---- the tables
+
+-- Q1 to Q5
+abbrev pub firstQuestions : List ℕ → List ℕ → Code → List (Outcome (Unit {0}))
+firstQuestions types tags C =
+    typeLengthsAsk (length types) (length tags)
+    ∷ codeLengthsAsk (length (C .blocks)) (length (C .code))
+    ∷ typesAsk types tags
+    ∷ lengthsAsk (C .blocks) (length (C .code))
+    ∷ []
+
+unfoldable pub firstAsk : List ℕ → List ℕ → Code → Outcome (Unit {0})
+firstAsk types tags C = inOrder (firstQuestions types tags C)
+
+-- what they give where they pass
+pub record Tabled (types : List ℕ) (C : Code) : Type 0 where
+  pub sizes : Sizes types
+  pub typed : length types ≤ 576
+  pub most : length (C .blocks) ≤ 2304
+  pub long : length (C .code) ≤ 8192
+  pub bounds : (b : ℕ) → b < rows (C .blocks)
+      → (1 ≤ headOf (C .blocks) b) × (headOf (C .blocks) b ≤ 32) × (startOf (C .blocks) b + headOf (C .blocks) b ≤ length (C .code))
+
+-- ---- a routine as its tables and a filling give it
+
+-- P has the blocks of a table, and for their annotations the rows in force
+pub record Annotated (P : Routine) (blocks offered : List ℕ) (f : Filling) : Type 0 where
+  pub count : P .count ≡ rows blocks
+  pub annotation : (b : ℕ) → b < rows blocks → P .annotation b ≡ inForce blocks offered (list (f .blanks)) (list (f .places)) b
+
+-- and its code is divided as the block table says
+pub record Divided (P : Routine) (C : Code) : Type 0 where
+  pub long : (b : ℕ) → P .long b ≡ headOf (C .blocks) b
+  pub start : (b : ℕ) → P .start b ≡ startOf (C .blocks) b
+  pub part : (b : ℕ) → P .part b ≡ take (headOf (C .blocks) b) (drop (startOf (C .blocks) b) (C .code))
 
 -- the code of block b is a part of the code that starts at first
 pub record BlockAt (P : Routine) (b first : ℕ) (part : List ℕ) : Type 0 where

@@ -6,21 +6,25 @@ ghost use mathlib.Core.Bool.{true};
 ghost use mathlib.Core.List.{List};
 ghost use Prim.Native.Nat.{ℕ, _+_, _*_, _≤_, _<_};
 ghost use lib.ListN.{length};
-ghost use Rattle.model.specs.Question.{Question, Refusal, isAnswer, ok, verdictOf};
-ghost use Rattle.model.specs.Table.{codeOf, Routine, routineOf, tablesOf};
+ghost use Rattle.model.specs.Question.{Question, Refusal, isAnswer, verdictOf};
+ghost use Rattle.model.specs.Table.{codeOf, Routine, tablesOf};
 ghost use Rattle.model.specs.Machine.{decode};
-ghost use Rattle.model.specs.Check.{readInstruction, blockAsk, tablesAsk};
+ghost use Rattle.model.specs.Check.{readInstruction, blockAsk};
 ghost use Rattle.model.specs.Cost.{instructionAsked, counting, checkAnswer};
+ghost use Rattle.blank.specs.Force.{Fits};
 ghost use Rattle.instruction.specs.Rows.{opcodeRows};
 ghost use Rattle.known.specs.Numbers.{tablesIn};
 ghost use Rattle.access.specs.State.{Sizes, numbered};
 ghost use Rattle.branch.specs.End.{readingIn};
-ghost use Rattle.verify.specs.Blocks.{Starts, BlockAt, begun, Stops, ReadSoFar, verdictAt, askedIn, judged};
+ghost use Rattle.verify.specs.Blocks.{Starts, firstAsk, Tabled, Annotated, Divided, BlockAt, begun, Stops, ReadSoFar, verdictAt};
+ghost use Rattle.verify.specs.Blocks.{askedIn, judged};
 use access::Fetched;
 use access::NO_BASE;
 use access::Progress;
+use blank::Filling;
 use branch::EndAnswer;
 use model::CheckAnswer;
+use model::Verdict;
 use model::limit;
 use model::number;
 use table::answer;
@@ -112,10 +116,12 @@ fn next_block(b: usize, count: usize) -> usize
 }
 
 // Q7 to Q9 and Q13 to Q15 of the last instruction of block b, which leads to the rows of its target and of the next block.
-fn block_end(
+fn block_end<'a, 'b: 'a>(
     rows: &[[u32; 2]; instruction::OPCODES],
     tags: &[u32],
-    blocks: &[u32],
+    blocks: &'a [u32],
+    offered: &'b [u32],
+    f: Filling,
     registers: &[u8; 8],
     words: &mut [u32; 256],
     frames: &[u8; 32],
@@ -124,14 +130,14 @@ fn block_end(
     word: u32,
     b: usize,
 ) -> EndAnswer
-    requires { ⌜ (now rows ≡ opcodeRows) × (b * 9 + 9 ≤ length (now blocks)) × (length (now blocks) ≤ 2304) ⌝ }
-    ensures { λ r. ⌜ ((place : Question → Refusal) (types code views fields : List ℕ) (since g : ℕ)
+    requires { ⌜ (now rows ≡ opcodeRows) × (b * 9 + 9 ≤ length (now blocks)) × (length (now blocks) ≤ 2304) × Fits f (now offered) ⌝ }
+    ensures { λ r. ⌜ ((P : Routine) → Annotated P (now (blocks .entry)) (now (offered .entry)) f
+        → (place : Question → Refusal) (types views fields : List ℕ) (since g : ℕ)
         → numbered place (r .number) (readingIn registers words frames constants views fields since base)
-        ≡ readInstruction (tablesIn types tags) (routineOf (codeOf (now (blocks .entry)) code)) place b g true (decode word)
-        (readingIn registers words frames constants views fields since base))
+        ≡ readInstruction (tablesIn types tags) P place b g true (decode word) (readingIn registers words frames constants views fields since base))
         × (isAnswer (r .number) ≡ true)
-        × ((types code views fields : List ℕ) (since : ℕ)
-        → r .asked ≡ instructionAsked (tablesIn types tags) (routineOf (codeOf (now (blocks .entry)) code)) b true (decode word)
+        × ((P : Routine) → Annotated P (now (blocks .entry)) (now (offered .entry)) f → (types views fields : List ℕ) (since : ℕ)
+        → r .asked ≡ instructionAsked (tablesIn types tags) P b true (decode word)
         (readingIn registers words frames constants views fields since base)) ⌝ }
 {
     let total = blocks.len() / limit::ROW_WORDS;
@@ -142,8 +148,8 @@ fn block_end(
             asked: 0,
         };
     }
-    let taken = table::row(blocks, instruction::target(word) as usize);
-    let untaken = table::row(blocks, next_block(b, total));
+    let taken = blank::in_force(blocks, offered, f, instruction::target(word) as usize);
+    let untaken = blank::in_force(blocks, offered, f, next_block(b, total));
     branch::edges(
         tags,
         registers,
@@ -151,8 +157,8 @@ fn block_end(
         frames,
         constants,
         word,
-        &taken[1..],
-        &untaken[1..],
+        taken,
+        untaken,
     )
 }
 
@@ -167,30 +173,32 @@ fn answered(number: u32, b: usize, index: usize, asked: u32) -> CheckAnswer
     answer::counting(answer::refused_at(number, b, index), asked)
 }
 
-// Q7 to Q15 and Q23 of block b, whose code is part and starts at first. The blocks before it have put so many fit questions: at most 512
-// each, so that no sum overflows.
-fn block(
+// Q7 to Q15 and Q23 of block b, whose code is part and starts at first, with the rows in force. The blocks before it have put so many fit
+// questions: at most 512 each, so that no sum overflows.
+pub fn block<'a, 'b: 'a>(
     rows: &[[u32; 2]; instruction::OPCODES],
     types: &[u32],
     tags: &[u32],
-    blocks: &[u32],
+    blocks: &'a [u32],
+    offered: &'b [u32],
+    f: Filling,
     part: &[u32],
     b: usize,
     first: usize,
     asked: u32,
 ) -> CheckAnswer
     requires { ⌜ (now rows ≡ opcodeRows) × Sizes (now types) × (b * 9 + 9 ≤ length (now blocks)) × (length (now blocks) ≤ 2304)
-        × (1 ≤ length (now part)) × (length (now part) ≤ 32) × (first ≤ 8192) × (asked ≤ 131072) ⌝ }
-    ensures { λ r. ⌜ ((code : List ℕ) → BlockAt (routineOf (codeOf (now (blocks .entry)) code)) b first (now (part .entry))
-        → r ≡ counting (verdictOf (blockAsk (tablesOf (now (types .entry)) (now (tags .entry))) (routineOf (codeOf (now (blocks .entry)) code)) b))
-        (asked + askedIn (tablesOf (now (types .entry)) (now (tags .entry))) (routineOf (codeOf (now (blocks .entry)) code)) b)) ⌝ }
+        × (1 ≤ length (now part)) × (length (now part) ≤ 32) × (first ≤ 8192) × (asked ≤ 131072) × Fits f (now offered) ⌝ }
+    ensures { λ r. ⌜ ((P : Routine) → Annotated P (now (blocks .entry)) (now (offered .entry)) f → BlockAt P b first (now (part .entry))
+        → r ≡ counting (verdictOf (blockAsk (tablesOf (now (types .entry)) (now (tags .entry))) P b))
+        (asked + askedIn (tablesOf (now (types .entry)) (now (tags .entry))) P b)) ⌝ }
 {
-    let own = table::row(blocks, b);
+    let own = blank::in_force(blocks, offered, f, b);
     let mut registers = [0u8, 1, 2, 3, 4, 5, 6, 7];
     let mut frames = [0u8; 32];
     let mut constants = [0u32; 32];
     let mut words = [0u32; 256];
-    access::copy_row(&mut words, &own[1..], 0);
+    access::copy_row(&mut words, own, 0);
     let r = inside(
         rows,
         types,
@@ -210,6 +218,8 @@ fn block(
         rows,
         tags,
         blocks,
+        offered,
+        f,
         &registers,
         &mut words,
         &frames,
@@ -221,16 +231,20 @@ fn block(
     answered(end.number, b, first + at, so_far + end.asked)
 }
 
-// Q7 to Q15 and Q23 of all blocks, in order. The code of block b is from starts[b] to starts[b + 1].
-fn judge(
+// Q7 to Q15 and Q23 of all blocks, in order, with the rows in force. The code of block b is from starts[b] to starts[b + 1].
+pub fn judge<'a, 'b: 'a>(
     types: &[u32],
     tags: &[u32],
-    blocks: &[u32],
+    blocks: &'a [u32],
+    offered: &'b [u32],
+    f: Filling,
     code: &[u32],
     starts: &[u32; limit::BLOCKS + 1],
 ) -> CheckAnswer
-    requires { ⌜ (tablesAsk (now types) (now tags) (codeOf (now blocks) (now code)) ≡ ok tt) × Starts (now blocks) (now starts) ⌝ }
-    ensures { λ r. ⌜ r ≡ judged (tablesOf (now (types .entry)) (now (tags .entry))) (routineOf (codeOf (now (blocks .entry)) (now (code .entry)))) ⌝ }
+    requires { ⌜ Tabled (now types) (codeOf (now blocks) (now code)) × Starts (now blocks) (now starts) × Fits f (now offered) ⌝ }
+    ensures { λ r. ⌜ ((P : Routine) → Annotated P (now (blocks .entry)) (now (offered .entry)) f
+        → Divided P (codeOf (now (blocks .entry)) (now (code .entry)))
+        → r ≡ judged (tablesOf (now (types .entry)) (now (tags .entry))) P) ⌝ }
 {
     let rows = instruction::opcode_rows();
     let count = blocks.len() / limit::ROW_WORDS;
@@ -244,6 +258,8 @@ fn judge(
             types,
             tags,
             blocks,
+            offered,
+            f,
             &code[first..end],
             b,
             first,
@@ -260,31 +276,53 @@ fn judge(
 
 // ---- the check
 
-// The check of a routine: the first no, with its place, and the fit questions put. All questions of the tables are asked here: so the
-// compiler takes the blocks for what is seldom come to, and leaves `judge` a function of its own, in which the loops have the registers to themselves.
-pub fn check(types: &[u32], tags: &[u32], blocks: &[u32], code: &[u32]) -> CheckAnswer
-    ensures { λ r. ⌜ r ≡ checkAnswer (now (types .entry)) (now (tags .entry)) (codeOf (now (blocks .entry)) (now (code .entry))) ⌝ }
+// Q1 to Q5. Where they pass, starts has the code index at which each block starts, and the code's length after the last.
+pub fn first_questions(
+    types: &[u32],
+    tags: &[u32],
+    blocks: &[u32],
+    code: &[u32],
+    starts: &mut [u32; limit::BLOCKS + 1],
+) -> Verdict
+    ensures verdict { λ r. ⌜ r ≡ verdictOf (firstAsk (now (types .entry)) (now (tags .entry)) (codeOf (now (blocks .entry)) (now (code .entry)))) ⌝ }
+    ensures filled { λ r. ⌜ (length (now (starts .entry)) ≡ 257 → r .number ≡ 0 → Starts (now (blocks .entry)) (now (starts .exit))) ⌝ }
 {
     let type_lengths = table::type_lengths(types.len(), tags.len());
     if type_lengths.number != number::PASSED {
-        return answer::counting(type_lengths, 0);
+        return type_lengths;
     }
     let code_lengths = table::code_lengths(blocks.len(), code.len());
     if code_lengths.number != number::PASSED {
-        return answer::counting(code_lengths, 0);
+        return code_lengths;
     }
     let records = table::types(types, tags);
     if records.number != number::PASSED {
-        return answer::counting(records, 0);
+        return records;
     }
+    table::lengths(blocks, code, starts)
+}
+
+// The check of a routine: the first no, with its place, and the fit questions put. No row is filled, and no list read: an empty part of the
+// block table stands for it.
+pub fn check(types: &[u32], tags: &[u32], blocks: &[u32], code: &[u32]) -> CheckAnswer
+    ensures { λ r. ⌜ r ≡ checkAnswer (now (types .entry)) (now (tags .entry)) (codeOf (now (blocks .entry)) (now (code .entry))) ⌝ }
+{
     let mut starts = [0u32; limit::BLOCKS + 1];
-    let lengths = table::lengths(blocks, code, &mut starts);
-    if lengths.number != number::PASSED {
-        return answer::counting(lengths, 0);
+    let tables = first_questions(types, tags, blocks, code, &mut starts);
+    if tables.number != number::PASSED {
+        return answer::counting(tables, 0);
     }
     let annotations = table::annotations((types.len() / limit::ROW_WORDS) as u32, blocks);
     if annotations.number != number::PASSED {
         return answer::counting(annotations, 0);
     }
-    judge(types, tags, blocks, code, &starts)
+    judge(
+        types,
+        tags,
+        blocks,
+        &blocks[..0],
+        blank::unfilled(),
+        code,
+        &starts,
+    )
 }

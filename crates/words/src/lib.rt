@@ -33,6 +33,9 @@ fn later(out: &mut [u8; output::BUFFER], n: usize, a: Asked) -> usize
     if row == number::LOCKED_FIELD {
         return rows::accesses(out, n, a);
     }
+    if row <= number::NO_CHOICE {
+        return rows::blanks(out, n, a);
+    }
     if row == number::PAUSED {
         return rows::outcomes(out, n, a);
     }

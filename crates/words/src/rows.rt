@@ -100,10 +100,46 @@ pub fn blocks(out: &mut [u8; output::BUFFER], n: usize, a: Asked) -> usize
             b"annotation|\
               a type word of a block's annotation has an unknown kind, a record type that is not in the table, or something \
               in a part that its kind does not use; or it has the mark of a locked field|\
-              record types counted from 1, a part left from another kind, or a type word taken from a record|\
+              record types counted from 1, a part left from another kind, a type word taken from a record, or a row left blank \
+              for a call that takes no offered rows|\
               write the word anew: 0 in bit 31, kind in bits 30 to 24, record type in 23 to 16, dependencies in 15 to 8 and 7 to \
               0, and 0 where the kind has none|\
               block row A",
+        );
+    }
+    said(out, n, a, b"")
+}
+
+// Annotations left blank, and the rows offered for them.
+pub fn blanks(out: &mut [u8; output::BUFFER], n: usize, a: Asked) -> usize
+    requires { ⌜ n + 16384 ≤ buffer ⌝ }
+    ensures { λ r. ⌜ Told (saidText a) (now (out .entry)) n r (now (out .exit)) ⌝ }
+{
+    if a.number == number::OFFERED_ROWS {
+        return said(
+            out,
+            n,
+            a,
+            b"offered rows|\
+              more than 3 annotations are left blank; or some are, and the offered list is not 0 to 8 whole rows of 8 words, or \
+              a row of it has a type word that an annotation may not have|\
+              a block length before the eight type words of an offered row, or a blank row offered|\
+              write annotations in until 3 are blank; offer at most 8 rows of the type words of r0 to r7 alone, each word made \
+              as in an annotation|\
+              block row A if a fourth is blank, else row A of the offered list",
+        );
+    }
+    if a.number == number::NO_CHOICE {
+        return said(
+            out,
+            n,
+            a,
+            b"no choice|\
+              no choice of offered rows for the annotations that are left blank makes the check accept the routine|\
+              no row offered that a blank block needs, or a fault of the code that no annotation mends|\
+              offer the row that is missing; if all are offered, write them in: the check then answers which question has a no, \
+              and where|\
+              block row A, the lowest that is blank",
         );
     }
     said(out, n, a, b"")

@@ -30,6 +30,8 @@ pub enum Answer {
     Field,
     Register,
     LockedField,
+    OfferedRows,
+    NoChoice,
     Paused,
 }
 
@@ -45,7 +47,7 @@ const fn row(answer: Answer, number: u32, name: &'static str, meaning: &'static 
 }
 
 // In the order of the enum, so that an answer is the place of its row. A test holds name and meaning against docs/REFUSALS.md.
-const ROWS: [Row; 25] = [
+const ROWS: [Row; 27] = [
     row(Answer::Passed, 0, "passed", "no question of the check has a no"),
     row(Answer::Halted, 0, "halted", "the run carried out a halt"),
     row(
@@ -120,6 +122,19 @@ const ROWS: [Row; 25] = [
     row(Answer::Field, 20, "field", "a word of a record does not meet its field's type"),
     row(Answer::Register, 21, "register", "a register does not meet the annotation of the block to start at"),
     row(Answer::LockedField, 23, "locked field", "a store goes to a field that is locked: routines load it, and none may write it"),
+    row(
+        Answer::OfferedRows,
+        32,
+        "offered rows",
+        "more than 3 annotations are left blank; or some are, and the offered list is not 0 to 8 whole rows of 8 words, or a row of it \
+         has a type word that an annotation may not have",
+    ),
+    row(
+        Answer::NoChoice,
+        33,
+        "no choice",
+        "no choice of offered rows for the annotations that are left blank makes the check accept the routine",
+    ),
     row(Answer::Paused, 40, "paused", "the budget of blocks is finished, and the routine has not halted"),
 ];
 

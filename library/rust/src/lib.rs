@@ -1,4 +1,4 @@
-//! The four calls of Ramdulsi as safe functions. The code behind them is proved: each answer is the one that the definitions of
+//! The six calls of Ramdulsi as safe functions. The code behind them is proved: each answer is the one that the definitions of
 //! the specification give for the words handed in, for any lengths and contents.
 //!
 //! A routine that loads a plot's stage and halts, over one record type of two words:
@@ -53,6 +53,8 @@ pub const PAUSED: u32 = Answer::Paused.number();
 /// - 1: table (0 types, 1 tags, 2 blocks, 3 code), 0
 /// - 2, 3: row of types, 0; 4: tag, 0
 /// - 5, 6: row of blocks, 0; for 5 the block count where code is left over after the last block
+/// - 32: the fourth blank block, 0; else 0, 0 for an offered list that is no whole rows or too long; else row of the list, 0
+/// - 33: the lowest blank block, 0
 /// - 7 to 15, 23: block, index over the whole code
 /// - 16, 17: 0, 0
 /// - 19: row of allocations, 0; row 0 for a list that is no whole rows or too long
@@ -104,6 +106,35 @@ impl CheckAnswer {
     }
 }
 
+/// What the check of a routine returns whose annotations may be left blank: number, place and cost as in a [`CheckAnswer`], and what was
+/// chosen. The cost is that of the chosen rows alone, and 0 for 1 to 6, 32 and 33.
+#[derive(Clone, Copy, Debug, PartialEq, Eq)]
+pub struct OfferedAnswer {
+    pub number: u32,
+    pub first: u32,
+    pub second: u32,
+    pub asked: u32,
+    /// The rows of the offered list for the lowest blank block, the next and the third, counted from 0; 0 where there is no such block, and
+    /// in a refusal.
+    pub choice: [u32; limit::BLANKS],
+}
+
+impl OfferedAnswer {
+    pub const fn passed(self) -> bool {
+        self.verdict().passed()
+    }
+
+    /// What the number stands for; none for a number that no call gives.
+    pub const fn answer(self) -> Option<Answer> {
+        self.verdict().answer()
+    }
+
+    /// Number and place alone, as the other checks return them.
+    pub const fn verdict(self) -> Verdict {
+        Verdict { number: self.number, first: self.first, second: self.second }
+    }
+}
+
 /// What a run returns beside the memory that it leaves. Block and index are those of the halt, of the block to go on with where it is
 /// paused, and of the instruction that is refused by 7, 8, 9 or 18; the place of 1, 5, 16 and 17 is that of a [`Verdict`].
 #[derive(Clone, Copy, Debug, PartialEq, Eq)]
@@ -134,6 +165,34 @@ mod sys {
             code: *const u32,
             code_words: usize,
             verdict: *mut u32,
+        ) -> u32;
+        pub fn ramdulsi_check_offered(
+            types: *const u32,
+            types_words: usize,
+            tags: *const u32,
+            tags_words: usize,
+            blocks: *const u32,
+            blocks_words: usize,
+            code: *const u32,
+            code_words: usize,
+            offered: *const u32,
+            offered_words: usize,
+            verdict: *mut u32,
+            choice: *mut u32,
+        ) -> u32;
+        pub fn ramdulsi_fill(
+            types: *const u32,
+            types_words: usize,
+            tags: *const u32,
+            tags_words: usize,
+            blocks: *mut u32,
+            blocks_words: usize,
+            code: *const u32,
+            code_words: usize,
+            offered: *const u32,
+            offered_words: usize,
+            verdict: *mut u32,
+            choice: *mut u32,
         ) -> u32;
         pub fn ramdulsi_memory_check(
             types: *const u32,
@@ -213,6 +272,78 @@ pub fn check(types: &[u32], tags: &[u32], blocks: &[u32], code: &[u32]) -> Check
     };
     let [first, second, asked] = verdict;
     CheckAnswer { number, first, second, asked }
+}
+
+fn offered_answer(call: impl FnOnce(*mut u32, *mut u32) -> u32) -> OfferedAnswer {
+    let (mut verdict, mut choice) = ([0; 3], [0; limit::BLANKS]);
+    let number = call(verdict.as_mut_ptr(), choice.as_mut_ptr());
+    let [first, second, asked] = verdict;
+    OfferedAnswer { number, first, second, asked, choice }
+}
+
+/// Whether a routine is accepted with rows of an offered list for the annotations left blank, and with which: up to 3 rows of `blocks` may
+/// be blank, as [`word::row_of_blank`] makes them, and `offered` is 0 to 8 rows of 8 type words, each free for several blocks. Of the
+/// choices that [`check`] accepts it is the one with the first row for the lowest blank block; of those with the same, with the first for
+/// the next. Where no row is blank the list is not looked at, and the answer is that of [`check`].
+pub fn check_offered(types: &[u32], tags: &[u32], blocks: &[u32], code: &[u32], offered: &[u32]) -> OfferedAnswer {
+    // SAFETY: each pointer comes with its slice's length, and the call writes the three words of verdict and of choice alone.
+    offered_answer(|verdict, choice| unsafe {
+        sys::ramdulsi_check_offered(
+            types.as_ptr(),
+            types.len(),
+            tags.as_ptr(),
+            tags.len(),
+            blocks.as_ptr(),
+            blocks.len(),
+            code.as_ptr(),
+            code.len(),
+            offered.as_ptr(),
+            offered.len(),
+            verdict,
+            choice,
+        )
+    })
+}
+
+/// The same as [`check_offered`], and where it passes the chosen rows are laid into the blank ones of `blocks`; where it refuses, `blocks`
+/// stays as it was. Every other call takes the filled table, and refuses a blank row by 6 or does not look at it:
+///
+/// ```
+/// use ramdulsi::word::*;
+/// use ramdulsi::Answer;
+///
+/// const ANY: u32 = type_any();
+/// const REFERS: [u32; 8] = [ANY, type_ref(0), ANY, ANY, ANY, ANY, ANY, ANY];
+/// let types = row_of_type(&[ANY, ANY]);
+/// let mut blocks = [row_of_block(1, REFERS), row_of_blank(2)].concat();
+/// let code = [code_jump(1), code_load(2, 1, 0), code_halt()];
+/// assert_eq!(ramdulsi::check(&types, &[], &blocks, &code).answer(), Some(Answer::Annotation));
+///
+/// // with nothing known of r1 the load is refused, so the second row it is
+/// let offered = [[ANY; 8], REFERS].concat();
+/// let filled = ramdulsi::fill(&types, &[], &mut blocks, &code, &offered);
+/// assert_eq!((filled.answer(), filled.choice), (Some(Answer::Passed), [1, 0, 0]));
+/// assert_eq!(blocks[9..], row_of_block(2, REFERS));
+/// assert!(ramdulsi::check(&types, &[], &blocks, &code).passed());
+/// ```
+pub fn fill(types: &[u32], tags: &[u32], blocks: &mut [u32], code: &[u32], offered: &[u32]) -> OfferedAnswer {
+    // SAFETY: as in `check_offered`; the call writes blocks too, which no other slice overlaps.
+    offered_answer(|verdict, choice| unsafe {
+        sys::ramdulsi_fill(
+            types.as_ptr(),
+            types.len(),
+            tags.as_ptr(),
+            tags.len(),
+            blocks.as_mut_ptr(),
+            blocks.len(),
+            code.as_ptr(),
+            code.len(),
+            offered.as_ptr(),
+            offered.len(),
+            verdict,
+            choice,
+        )
+    })
 }
 
 fn verdict(call: impl FnOnce(*mut u32) -> u32) -> Verdict {

@@ -9,6 +9,10 @@ use std::fmt;
 /// No type word, no instruction and no dependency.
 pub const NO_WORD: u32 = 0xffff_ffff;
 
+/// Each of the eight type words of a row whose annotation is left blank, for `check_offered` and `fill`. It is [`NO_WORD`]: to these two a
+/// block's row with that in all eight places is one left blank, and with it in fewer is refused.
+pub const BLANK_WORD: u32 = NO_WORD;
+
 /// A dependency byte from here on is a constant, by so much more than it is; one below is a field or a register.
 pub const CONSTANTS: u32 = 8;
 
@@ -244,6 +248,11 @@ pub const fn row_of_type(fields: &[u32]) -> [u32; limit::ROW_WORDS] {
 pub const fn row_of_block(length: u32, registers: [u32; limit::REGISTERS]) -> [u32; limit::ROW_WORDS] {
     let [r0, r1, r2, r3, r4, r5, r6, r7] = registers;
     [length, r0, r1, r2, r3, r4, r5, r6, r7]
+}
+
+/// A row of the block table whose annotation is left blank: the number of instructions, 1 to 32, and eight blank words.
+pub const fn row_of_blank(length: u32) -> [u32; limit::ROW_WORDS] {
+    row_of_block(length, [BLANK_WORD; limit::REGISTERS])
 }
 
 /// A row of the allocations: the address of the record's first word, and its type.

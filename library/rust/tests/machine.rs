@@ -1,8 +1,8 @@
-//! The words that the binding makes, as the archive reads them: an instruction of each opcode carried out, a type of each kind checked, and
-//! what checks cost.
+//! The words that the binding makes, as the archive reads them: an instruction of each opcode carried out, a type of each kind checked, what
+//! checks cost, and what they choose.
 
 use ramdulsi::word::*;
-use ramdulsi::{check, entry_check, memory_check, run, Answer, Kind};
+use ramdulsi::{check, check_offered, entry_check, fill, memory_check, run, Answer, Kind};
 
 const ANY: u32 = type_any();
 const NOTHING: [u32; 8] = [ANY; 8];
@@ -127,6 +127,61 @@ fn costs_of_edges() {
     assert_eq!(cost(reference, code_if_equal(2, 0, 1)), (Some(Answer::TakenEdge), 8));
     assert_eq!(cost(reference, code_if_less(2, 3, 0)), (Some(Answer::UntakenEdge), 16));
     assert_eq!(cost(NO_WORD, code_jump(1)), (Some(Answer::Annotation), 0));
+}
+
+/// Block 0 leads to block 1, which loads through r1 and leads to block 2, which halts; over a record type of one field.
+const LEADS: [u32; 4] = [code_jump(1), code_load(2, 1, 0), code_jump(2), code_halt()];
+const REFERS: [u32; 8] = [ANY, type_ref(0), ANY, ANY, ANY, ANY, ANY, ANY];
+
+/// Number, place and cost, and the choice, for the rows given and those offered; filling answers the same.
+fn chosen(rows: [[u32; 9]; 3], offered: &[[u32; 8]]) -> ([u32; 4], [u32; 3], Vec<u32>) {
+    let (mut blocks, offered) = (rows.concat(), offered.concat());
+    let a = check_offered(&TYPES, &[], &blocks, &LEADS, &offered);
+    assert_eq!(fill(&TYPES, &[], &mut blocks, &LEADS, &offered), a);
+    ([a.number, a.first, a.second, a.asked], a.choice, blocks)
+}
+
+#[test]
+fn blank_rows() {
+    let (first, last) = (row_of_block(1, REFERS), row_of_block(1, NOTHING));
+    let (whole, blank) = ([first, row_of_block(2, REFERS), last], [first, row_of_blank(2), row_of_blank(1)]);
+    // block 1 has need of the reference, block 2 of nothing, so the first row that is offered does
+    let filled = [first, row_of_block(2, REFERS), row_of_block(1, NOTHING)].concat();
+    assert_eq!(chosen(blank, &[NOTHING, REFERS]), ([0, 0, 0, 16], [1, 0, 0], filled));
+    let filled = [first, row_of_block(2, REFERS), row_of_block(1, REFERS)].concat();
+    assert_eq!(chosen(blank, &[REFERS, NOTHING]), ([0, 0, 0, 16], [0, 0, 0], filled));
+    let filled = [row_of_block(1, REFERS), row_of_block(2, REFERS), row_of_block(1, NOTHING)].concat();
+    let all = [row_of_blank(1), row_of_blank(2), row_of_blank(1)];
+    assert_eq!(chosen(all, &[NOTHING, REFERS]), ([0, 0, 0, 16], [1, 1, 0], filled));
+    // no row is blank, and the list is not looked at
+    assert_eq!(chosen(whole, &[[NO_WORD; 8]]), ([0, 0, 0, 16], [0; 3], whole.concat()));
+}
+
+#[test]
+fn blank_rows_refused() {
+    let (first, last) = (row_of_block(1, REFERS), row_of_block(1, NOTHING));
+    let blank = [first, row_of_blank(2), last];
+    let refused = |offered: &[[u32; 8]]| {
+        let (answer, choice, blocks) = chosen(blank, offered);
+        assert_eq!((choice, blocks), ([0; 3], blank.concat()));
+        answer
+    };
+    assert_eq!(refused(&[]), [33, 1, 0, 0]);
+    assert_eq!(refused(&[NOTHING]), [33, 1, 0, 0]);
+    assert_eq!(refused(&[REFERS, [NO_WORD; 8]]), [32, 1, 0, 0]);
+    assert_eq!(refused(&[[type_locked(ANY); 8], REFERS]), [32, 0, 0, 0]);
+    assert_eq!(refused(&[REFERS; 9]), [32, 0, 0, 0]);
+    let blocks = blank.concat();
+    let answer = |blocks: &[u32], code: &[u32], offered: &[u32]| check_offered(&TYPES, &[], blocks, code, offered).answer();
+    assert_eq!(answer(&blocks, &LEADS, &[ANY; 7]), Some(Answer::OfferedRows));
+    let four = [row_of_blank(1); 4].concat();
+    assert_eq!(check_offered(&TYPES, &[], &four, &[code_halt(); 4], &[]).verdict(), ramdulsi::Verdict { number: 32, first: 3, second: 0 });
+    // seven words are no blank row, and to the check without a list none is
+    let mut seven = blocks.clone();
+    seven[10] = ANY;
+    assert_eq!(answer(&seven, &LEADS, &REFERS), Some(Answer::Annotation));
+    assert_eq!(check(&TYPES, &[], &blocks, &LEADS).answer(), Some(Answer::Annotation));
+    assert_eq!(answer(&blocks, &[NO_WORD; 4], &REFERS), Some(Answer::NoChoice));
 }
 
 #[test]

@@ -44,6 +44,7 @@ fn numbers_are_those_of_the_header() {
     assert_eq!(defined("STACK"), stack.map(|(name, bytes)| (name.to_string(), bytes as u64)));
     assert!(HEADER.contains(&format!("#define RAMDULSI_VERSION \"{}\"", ramdulsi::VERSION)));
     assert!(HEADER.contains(&format!("#define RAMDULSI_NO_WORD {NO_WORD:#x}u")));
+    assert!(HEADER.contains(&format!("#define RAMDULSI_BLANK_WORD {BLANK_WORD}u")));
 }
 
 #[test]
@@ -52,12 +53,15 @@ fn limits_are_those_of_the_header() {
         ("ROW_WORDS", limit::ROW_WORDS),
         ("TYPE_WORDS", limit::TYPE_WORDS),
         ("ALLOCATION_WORDS", limit::ALLOCATION_WORDS),
+        ("OFFERED_WORDS", limit::OFFERED_WORDS),
         ("TYPES", limit::TYPES),
         ("TAGS", limit::TAGS),
         ("BLOCKS", limit::BLOCKS),
         ("CODE", limit::CODE),
         ("ALLOCATIONS", limit::ALLOCATIONS),
         ("MEMORY", limit::MEMORY),
+        ("OFFERED", limit::OFFERED),
+        ("BLANKS", limit::BLANKS),
         ("FIELDS", limit::FIELDS as usize),
         ("BLOCK_LENGTH", limit::BLOCK_LENGTH as usize),
         ("FIRST_START", limit::FIRST_START),
@@ -137,5 +141,6 @@ fn rows() {
     assert_eq!(row_of_type(&eight), [8, 1, 2, 3, 4, 5, 6, 7, 8]);
     assert_eq!(row_of_type(&[1; 9]), [9, 0, 0, 0, 0, 0, 0, 0, 0]);
     assert_eq!(row_of_block(32, eight), [32, 1, 2, 3, 4, 5, 6, 7, 8]);
+    assert_eq!(row_of_blank(31), row_of_block(31, [u32::MAX; 8]));
     assert_eq!(row_of_allocation(16383, 63), [16383, 63]);
 }

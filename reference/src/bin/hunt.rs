@@ -1,6 +1,6 @@
 //! Hunts for a broken promise of the plain implementation: `hunt [SEED [CASES]]`.
 
-use ramdulsi_reference::hunt::{costs, numbered, turns, Seen};
+use ramdulsi_reference::hunt::{choice, costs, numbered, turns, Seen};
 use ramdulsi_reference::Plain;
 
 fn main() {
@@ -10,7 +10,9 @@ fn main() {
     let mut seen = Seen::default();
     for k in 0..cases {
         let (mut r, c) = numbered(seed, k);
-        let kept = turns::<Plain>(&mut r, &c, &mut seen).and_then(|()| costs::<Plain>(&mut r, &c, &mut seen));
+        let kept = turns::<Plain>(&mut r, &c, &mut seen)
+            .and_then(|()| costs::<Plain>(&mut r, &c, &mut seen))
+            .and_then(|()| choice::<Plain>(&mut r, &c, &mut seen));
         if let Err(story) = kept {
             eprintln!("seed {seed}, case {k}: {story}");
             std::process::exit(1);
@@ -21,4 +23,5 @@ fn main() {
         seen.routines, seen.turns, seen.changed, seen.locked
     );
     println!("seed {seed}: {} fit questions counted, at most 16 for each instruction examined", seen.asked);
+    println!("seed {seed}: {} routines whose blank annotations were filled, by rows that make them accepted", seen.filled);
 }

@@ -1,11 +1,12 @@
-//! Prints a table: each call at a quarter, half and full size, the proved library beside the plain one and, for a run, beside one written
-//! for speed alone, as the least of many interleaved rounds. Every input is first asked of all, and must get the answer that its row
-//! intends. `bench NAME ..` prints the rows of these names alone. `bench --guard` prints nothing but the rows of check and run that are
-//! over the guard's limit in each of its passes, and then ends with 1.
+//! Prints a table: each call at a quarter, half and full size, the proved library beside the plain one and, for a run and for a check with
+//! offered rows, beside one written for speed alone, as the least of many interleaved rounds. Every input is first asked of all, and must
+//! get the answer that its row intends. `bench NAME ..` prints the rows of these names alone. `bench --guard` prints nothing but the rows of
+//! check and run that are over the guard's limit in each of its passes, and then ends with 1.
 
 mod checks;
 mod measure;
 mod memories;
+mod offers;
 mod row;
 mod runs;
 mod stations;
@@ -15,6 +16,7 @@ use row::Row;
 fn rows() -> Vec<Row> {
     let mut rows = checks::rows();
     rows.extend(stations::checks());
+    rows.extend(offers::rows());
     rows.extend(memories::memories());
     rows.extend(memories::entries());
     rows.extend(runs::rows());

@@ -1,7 +1,7 @@
 //! Times of a row, the table of all rows, and the guard.
 
-use crate::row::{call, Call, Input, Row};
-use ramdulsi_comparison::{fast, Proved};
+use crate::row::{call, offered, Call, Input, Row};
+use ramdulsi_comparison::{choice, fast, Proved};
 use ramdulsi_reference::generate::Case;
 use ramdulsi_reference::{Plain, RunAnswer};
 use std::hint::black_box;
@@ -17,16 +17,25 @@ fn quick(_: Call, c: &Case, memory: &mut [u32]) -> RunAnswer {
     fast::run(&c.blocks, &c.code, memory, c.block, c.registers, c.budget)
 }
 
-/// Proved, plain, and for a run the one written for speed alone.
-fn sides(which: Call) -> Vec<Side> {
-    let mut all: Vec<Side> = vec![call::<Proved>, call::<Plain>];
-    if which == Call::Run {
-        all.push(quick);
-    }
-    all
+fn by_blocks(_: Call, c: &Case, _: &mut [u32]) -> RunAnswer {
+    offered(choice::plain, c)
 }
 
-/// Asks every side once; all must give the answer that the row intends and leave the same registers and memory.
+fn by_blocks_quick(_: Call, c: &Case, _: &mut [u32]) -> RunAnswer {
+    offered(choice::fast, c)
+}
+
+/// Proved, plain, and for a run the one written for speed alone. With an offered list the plain one chooses block by block, as the proved one
+/// does, and the one for speed tries the first choice before, and counts while it chooses.
+fn sides(which: Call) -> Vec<Side> {
+    match which {
+        Call::Run => vec![call::<Proved>, call::<Plain>, quick],
+        Call::Offered => vec![call::<Proved>, by_blocks, by_blocks_quick],
+        _ => vec![call::<Proved>, call::<Plain>],
+    }
+}
+
+/// Asks every side once, and the plain implementation; all must give the answer that the row intends and leave the same registers and memory.
 fn agree(row: &Row, sides: &[Side], Input { case, answer, .. }: &Input) {
     let ask = |side: &Side| {
         let mut memory = case.memory.clone();
@@ -34,7 +43,8 @@ fn agree(row: &Row, sides: &[Side], Input { case, answer, .. }: &Input) {
     };
     let first = ask(&sides[0]);
     assert_eq!((first.0.number, first.0.block, first.0.index), *answer, "{}", row.name);
-    assert!(sides.iter().all(|side| ask(side) == first), "{}: the sides differ", row.name);
+    let plain: Side = call::<Plain>;
+    assert!(sides.iter().chain([&plain]).all(|side| ask(side) == first), "{}: the sides differ", row.name);
 }
 
 /// Microseconds of each side at each size, the least of many rounds; a round takes all in turn, each over the memory of its case.
@@ -100,7 +110,7 @@ impl Table {
 
     pub fn summary(self) {
         summary("Ratio to plain", self.ratios);
-        summary("Ratio of a run to the one written for speed alone", self.to_fast);
+        summary("Ratio of a run, or a check with offered rows, to the one written for speed alone", self.to_fast);
         if let Some((growth, name)) = self.growths.iter().max_by(|a, b| a.0.total_cmp(&b.0)) {
             println!("Growth from a quarter to full size: at most {growth:.2} ({name}).");
         }
@@ -129,7 +139,7 @@ fn summary(what: &str, mut lines: Lines) {
 /// noise of the machine does not come back five times, a lost shape does. Prints the rows that are left; true if there is none.
 pub fn guard(rows: Vec<Row>) -> bool {
     let mut left: Vec<(Row, Vec<f64>)> =
-        rows.into_iter().filter(|row| matches!(row.which, Call::Check | Call::Run)).map(|row| (row, vec![])).collect();
+        rows.into_iter().filter(|row| matches!(row.which, Call::Check | Call::Offered | Call::Run)).map(|row| (row, vec![])).collect();
     for _ in 0..PASSES {
         for (row, ratios) in &mut left {
             let times = times(row, &[(row.make)(4)]);

@@ -1,14 +1,24 @@
 //! What a row measures, and the words that its input is made of.
 
 use ramdulsi_reference::generate::Case;
-use ramdulsi_reference::{CheckAnswer, Loader, RunAnswer};
+use ramdulsi_reference::{CheckAnswer, Loader, OfferedAnswer, RunAnswer};
 
 #[derive(Clone, Copy, PartialEq, Eq)]
 pub enum Call {
     Check,
+    Offered,
     Memory,
     Entry,
     Run,
+}
+
+/// A function that checks with an offered list.
+pub type Offered = fn(&[u32], &[u32], &[u32], &[u32], &[u32]) -> OfferedAnswer;
+
+/// Its answer as that of a run, with the choice in the place of registers.
+pub fn offered(check: Offered, c: &Case) -> RunAnswer {
+    let OfferedAnswer { number, first, second, asked, choice: [x, y, z] } = check(&c.types, &c.tags, &c.blocks, &c.code, &c.offered);
+    RunAnswer { number, block: first, index: second, finished: u64::from(asked), registers: [x, y, z, 0, 0, 0, 0, 0] }
 }
 
 /// The answer of a call. That of a check is its number and place, and the fit questions of a routine's check in the place of the blocks
@@ -19,6 +29,7 @@ pub fn call<L: Loader>(which: Call, c: &Case, memory: &mut [u32]) -> RunAnswer {
             let CheckAnswer { number, first, second, asked } = L::check(&c.types, &c.tags, &c.blocks, &c.code);
             return RunAnswer { number, block: first, index: second, finished: u64::from(asked), registers: [0; 8] };
         }
+        Call::Offered => return offered(L::check_offered, c),
         Call::Memory => L::memory_check(&c.types, &c.tags, &c.allocations, memory),
         Call::Entry => L::entry_check(&c.types, &c.tags, &c.allocations, memory, &c.blocks, &c.code, c.block, c.registers),
         Call::Run => return L::run(&c.blocks, &c.code, memory, c.block, c.registers, c.budget),

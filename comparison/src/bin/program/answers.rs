@@ -34,8 +34,8 @@ pub fn ends(program: &Program) -> Outcome {
     for (what, input) in [("lines that end with CR LF", &carriage), ("tabs", &tabs), ("many blanks", &wide)] {
         program.compare(&[], input, what)?;
     }
-    for last in ["check 0 0 0 0", "check 0 0 0 0\r", "run 0", "check 0 0 0 0x", "# end", " ", "\t#", "x", "check"] {
-        let input = format!("check 0 0 0 0x0\n\n{last}");
+    for last in ["check 0 0 0 0 0", "check 0 0 0 0 0\r", "run 0", "check 0 0 0 0 0x", "# end", " ", "\t#", "x", "check"] {
+        let input = format!("check 0 0 0 0 0x0\n\n{last}");
         program.compare(&[], input.as_bytes(), &format!("a last line {last:?} without a line end"))?;
     }
     program.compare(&[], b"", "no input")?;
@@ -44,7 +44,7 @@ pub fn ends(program: &Program) -> Outcome {
 }
 
 pub fn nul(program: &Program) -> Outcome {
-    let line = b"check 0x1 5 0 0 0\n";
+    let line = b"check 0x1 5 0 0 0 0\n";
     let mut input = Vec::new();
     for byte in [0, 0x0b, 0x0c, 0x1a, 0x7f, 0x80, 0xa0, 0xff] {
         for at in 0..line.len() {
@@ -98,12 +98,12 @@ pub fn limits(program: &Program) -> Outcome {
     for count in [POOL - 1, POOL, POOL + 1, 10 * POOL] {
         let words = count.min(POOL + 1);
         for count in [format!("{count}"), format!("{count:#x}"), format!("000{count}"), format!("0x00{count:X}")] {
-            input += &filled("check 0 0 0", &count, words, "");
+            input += &filled("check 0 0 0 0", &count, words, "");
         }
         input += &filled("memory 0 1 5 0", &(count - 1).to_string(), words - 1, "");
-        input += &filled("check 0 2 0x5 6 0", &(count - 2).to_string(), words - 2, "");
-        input += &filled("check 0 0 0", &count.to_string(), words - 1, "");
-        input += &filled("check 0 0 0", &count.to_string(), words + 1, "");
+        input += &filled("check 0 2 0x5 6 0", &(count - 2).to_string(), words - 2, "0");
+        input += &filled("check 0 0 0 0", &count.to_string(), words - 1, "");
+        input += &filled("check 0 0 0 0", &count.to_string(), words + 1, "");
     }
     let (all, malformed) = counted(input.as_bytes());
     program.compare(&[], input.as_bytes(), "tables at the limit of the pool")?;
@@ -134,10 +134,10 @@ pub fn long(program: &Program) -> Outcome {
     const SIZE: usize = 100_000_000;
     let mut seconds = Vec::new();
     for (what, start, fill, end) in [
-        ("a line of 100 MB, wrong at its start", "check y", b'x', "\ncheck 0 0 0 0\n"),
-        ("a line of 100 MB of zeros, wrong at its end", "check 1 ", b'0', "x\ncheck 0 0 0 0\n"),
-        ("a line of 100 MB of blanks, right", "check 0 0 0 0", b' ', "\ncheck 0 0 0 0x\n"),
-        ("a comment of 100 MB", "#", b'#', "\ncheck 0 0 0 0"),
+        ("a line of 100 MB, wrong at its start", "check y", b'x', "\ncheck 0 0 0 0 0\n"),
+        ("a line of 100 MB of zeros, wrong at its end", "check 1 ", b'0', "x\ncheck 0 0 0 0 0\n"),
+        ("a line of 100 MB of blanks, right", "check 0 0 0 0 0", b' ', "\ncheck 0 0 0 0 0x\n"),
+        ("a comment of 100 MB", "#", b'#', "\ncheck 0 0 0 0 0"),
     ] {
         let mut input = start.as_bytes().to_vec();
         input.resize(SIZE, fill);

@@ -121,13 +121,13 @@ pub fn gone(program: &Program) -> Outcome {
 /// A read that fails after two lines and a half: a socket whose other end is closed before it has read what it was sent.
 pub fn broken(program: &Program) -> Outcome {
     let (mut theirs, mut ours) = UnixStream::pair().map_err(|e| e.to_string())?;
-    theirs.write_all(b"unread").and_then(|()| ours.write_all(b"check 0 0 0 0\n# two\ncheck 0 0 0 0")).map_err(|e| e.to_string())?;
+    theirs.write_all(b"unread").and_then(|()| ours.write_all(b"check 0 0 0 0 0\n# two\ncheck 0 0 0 0 0")).map_err(|e| e.to_string())?;
     drop(ours);
     let mut command = program.command(&["--lines"]);
     command.stdin(Stdio::from(OwnedFd::from(theirs)));
     let said = finish(command, b"")?;
     failed(program, &said, "standard input", 3..=3, "Connection reset by peer")?;
-    if said.out != b"1 1 0 0 0\n" {
+    if said.out != b"1 1 0 0 0 0 0 0\n" {
         return Err(format!("a read that fails in line 3: answers {}", shown(&said.out)));
     }
     Ok(format!("a read that fails within line 3 is named so, the lines before it are answered, and the status is {}", program.status(3)))

@@ -8,8 +8,8 @@ use std::process::Stdio;
 
 /// Requests with each kind of answer, comments and empty lines between them, and no line end after the last.
 pub const INPUT: &str = "# a comment\n\
-    check 0 0 0 0\n\n  \t\n\
-    check 9 1 0 0 0 0 0 0 0 0 0 9 1 0 0 0 0 0 0 0 0 1 0\r\n\
+    check 0 0 0 0 0\n\n  \t\n\
+    check 9 1 0 0 0 0 0 0 0 0 0 9 1 0 0 0 0 0 0 0 0 1 0 0\r\n\
     \t# another\n\
     run 0x9 1 0 0 0 0 0 0 0 0 1 0 1 0x7 0 1 2 3 4 5 6 7 8 0\n\
     checks\n\
@@ -17,8 +17,8 @@ pub const INPUT: &str = "# a comment\n\
     run 9 1 0 0 0 0 0 0 0 0 1 0 1 7 0 1 2 3 4 5 6 7 0xFFFFFFFF 1";
 
 /// One request that passes, and one that is refused.
-pub const PASSED: &str = "check 9 1 0 0 0 0 0 0 0 0 0 9 1 0 0 0 0 0 0 0 0 1 0\n";
-pub const REFUSED: &str = "check 0 0 0 0\n";
+pub const PASSED: &str = "check 9 1 0 0 0 0 0 0 0 0 0 9 1 0 0 0 0 0 0 0 0 1 0 0\n";
+pub const REFUSED: &str = "check 0 0 0 0 0\n";
 
 fn answered(program: &Program, said: &Said, wanted: &[u8], status: i32, what: &str) -> Result<(), String> {
     alike(&said.out, wanted, INPUT.as_bytes()).map_err(|wrong| format!("{what}: {wrong}"))?;
@@ -84,8 +84,14 @@ pub fn files(program: &Program) -> Outcome {
     answered(program, &said, &wanted, 1, "standard input between two files")?;
     answered(program, &program.ask(&["empty"], b"check 1")?, b"", 0, "an empty file")?;
     let said = program.ask(&["open", "empty", "open"], b"")?;
-    answered(program, &said, b"0 0 0 0\n0 0 0 0\n", 0, "a line without an end, then another file")?;
-    answered(program, &program.ask(&["last", "open"], b"")?, b"1 0 0 0\n0 0 0 0\n", 1, "a file with a refusal, then one without")?;
+    answered(program, &said, b"0 0 0 0 0 0 0\n0 0 0 0 0 0 0\n", 0, "a line without an end, then another file")?;
+    answered(
+        program,
+        &program.ask(&["last", "open"], b"")?,
+        b"1 0 0 0 0 0 0\n0 0 0 0 0 0 0\n",
+        1,
+        "a file with a refusal, then one without",
+    )?;
     Ok("files are read in order, - is standard input, each begins on a new line with number 1, and an empty one gets no answer".into())
 }
 
@@ -94,10 +100,10 @@ pub fn dashes(program: &Program) -> Outcome {
         program.file(name, REFUSED.as_bytes());
     }
     let said = program.ask(&["--lines", "--", "--words", "-x", "--", "-h"], b"")?;
-    answered(program, &said, b"1 1 0 0 0\n1 1 0 0 0\n1 1 0 0 0\n1 1 0 0 0\n", 1, "files after --")?;
-    answered(program, &program.ask(&["--"], REFUSED.as_bytes())?, b"1 0 0 0\n", 1, "-- alone")?;
-    answered(program, &program.ask(&["--", "-"], REFUSED.as_bytes())?, b"1 0 0 0\n", 1, "-- and -")?;
-    answered(program, &program.ask(&["-"], PASSED.as_bytes())?, b"0 0 0 0\n", 0, "- alone")?;
+    answered(program, &said, b"1 1 0 0 0 0 0 0\n".repeat(4).as_slice(), 1, "files after --")?;
+    answered(program, &program.ask(&["--"], REFUSED.as_bytes())?, b"1 0 0 0 0 0 0\n", 1, "-- alone")?;
+    answered(program, &program.ask(&["--", "-"], REFUSED.as_bytes())?, b"1 0 0 0 0 0 0\n", 1, "-- and -")?;
+    answered(program, &program.ask(&["-"], PASSED.as_bytes())?, b"0 0 0 0 0 0 0\n", 0, "- alone")?;
     Ok("-- ends the options, and - alone is standard input".into())
 }
 

@@ -46,7 +46,7 @@ fn in_two(program: &Program, input: &[u8], at: usize) -> Result<(), String> {
 /// An input cut at each place, and one that ends there.
 pub fn cut(program: &Program) -> Outcome {
     let input =
-        format!("{INPUT}\nrun 0x9 0x00001 0 0 0 0 0 0 0 0 1 0 0x1 0xaF 0 1 2 3 4 5 6 7 8 18446744073709551615\ncheck 0 0 0 0x\n0x\n");
+        format!("{INPUT}\nrun 0x9 0x00001 0 0 0 0 0 0 0 0 1 0 0x1 0xaF 0 1 2 3 4 5 6 7 8 18446744073709551615\ncheck 0 0 0 0 0x\n0x\n");
     let input = input.as_bytes();
     for at in 0..=input.len() {
         in_two(program, input, at).map_err(|wrong| format!("cut at byte {at}: {wrong}"))?;
@@ -171,10 +171,10 @@ pub fn before(program: &Program) -> Outcome {
     let mut child = text(program.command(&["good", "-"]).spawn())?;
     let mut stdin = child.stdin.take().expect("a pipe");
     for _ in 0..3 {
-        let mut early = [0; 8];
+        let mut early = [0; 14];
         let read = child.stdout.as_mut().expect("a pipe").read_exact(&mut early);
         read.map_err(|_| "an answer does not come while standard input is open")?;
-        if early != *b"0 0 0 0\n" {
+        if early != *b"0 0 0 0 0 0 0\n" {
             return Err(format!("the answer is {early:?}"));
         }
         text(stdin.write_all(PASSED.as_bytes()))?;

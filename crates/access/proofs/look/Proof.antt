@@ -4,7 +4,8 @@ use native.Mathlib.Omega.{arith}
 use denote.Ref.{now}
 use lib.ListN.{length}
 use borrow.Author.Needs.{needs}
-use Rattle.access.proofs.Fields.{look-open, look-seen, look-born, part-is, part-length, row-words}
+use Rattle.access.proofs.Fields.{look-open, look-seen, look-born}
+use Rattle.table.proofs.Laws.{part-is, part-length, row-words}
 use Rattle.access.proofs.look.Statement.{statement}
 use Rattle.access.proofs.look.Tie as tie
 

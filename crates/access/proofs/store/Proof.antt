@@ -18,7 +18,7 @@ use Rattle.access.proofs.Outcomes.{number-of, asked-of, none-more}
 use Rattle.table.proofs.Laws.{tables-size}
 use Rattle.access.specs.State.{storeAsked}
 use Rattle.access.proofs.Fields.{store-locked, locked-asked, store-other, other-asked, own-asked, store-closes, store-holds}
-use Rattle.access.proofs.Fields.{part-is, part-length, row-words}
+use Rattle.table.proofs.Laws.{part-is, part-length, row-words}
 use Rattle.access.proofs.store.Statement.{statement}
 use Rattle.access.proofs.store.Tie as tie
 

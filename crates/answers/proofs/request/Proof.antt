@@ -12,6 +12,9 @@ use Rattle.answers.proofs.request.Tie as tie
 check-requires : tie.Need-check-requires
 check-requires c κs = search needs
 
+blanks-requires : tie.Need-blanks-requires
+blanks-requires c κs = search needs
+
 checked-requires : tie.Need-checked-requires
 checked-requires c κs = search needs
 
@@ -54,9 +57,14 @@ form c = lent c .args .l .form
 
 returns : tie.Need-returns
 returns c =
-    let t = c .before .before .before in
+    let b = c .before in
+    let a = b .before .before in
+    let t = a .before in
     let k = t .before in
-    gives-same _ _ _ _ _ _ (asks-check (form k) (parts k) (longs k) _ (t .if1 .taken) (c .before .check .ensures)) (c .checked .ensures)
+    gives-same
+    _ _ _ _ _ _
+    (asks-check (form k) (parts k) (longs k) _ _ (t .if1 .taken) (a .check .ensures) (b .blanks .ensures))
+    (c .checked .ensures)
 
 returns-2 : tie.Need-returns-2
 returns-2 c =
@@ -90,6 +98,7 @@ request-spec =
     tie.close
     (tie.spec
     check-requires
+    blanks-requires
     checked-requires
     returns
     memory-check-requires

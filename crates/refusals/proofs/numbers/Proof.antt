@@ -9,7 +9,7 @@ abbrev Inv-loop : tie.InvT-loop
 Inv-loop out₀ n rows at₀ i₀ out at i = Unit {0}
 
 abbrev μ-loop : tie.MeasureT-loop
-μ-loop out₀ n rows at₀ i₀ out at i = 22 - i
+μ-loop out₀ n rows at₀ i₀ out at i = 24 - i
 
 questions-requires : tie.Need-questions-requires Inv-loop μ-loop
 questions-requires c κs = tt

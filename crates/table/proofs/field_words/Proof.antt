@@ -4,6 +4,7 @@ use Prim.Native.Nat.{_-_}
 use native.Mathlib.Omega.{arith}
 use Rattle.model.specs.Question.{firstNo}
 use Rattle.model.specs.Table.{rows, tablesOf, fieldsAsk}
+use Rattle.table.proofs.Laws.{own-eight}
 use Rattle.table.proofs.Questions.{test-false, test-true, RowsLeft, rows-begin, row-yes, row-no, rows-end}
 use Rattle.table.proofs.Answers.{fields-yes, fields-no}
 use Rattle.table.proofs.field_words.Statement.{statement}
@@ -18,12 +19,15 @@ abbrev μ-loop : tie.MeasureT-loop
 
 -- the loop where a row's words are judged
 abbrev round : tie.After-words-well Inv-loop μ-loop → tie.At-loop Inv-loop μ-loop
-round c = c .before .before .before
+round c = c .before .before .before .before
 
 -- ---- the needs
 
 loop-holds : tie.Need-loop-holds Inv-loop μ-loop
 loop-holds c = rows-begin (λ tags. refl)
+
+type-words-requires : tie.Need-type-words-requires Inv-loop μ-loop
+type-words-requires c κs = omega arith
 
 cast-words-well : tie.Need-cast-words-well Inv-loop μ-loop
 cast-words-well c = omega arith
@@ -32,7 +36,7 @@ head-requires : tie.Need-head-requires Inv-loop μ-loop
 head-requires c κs = omega arith
 
 words-well-requires : tie.Need-words-well-requires Inv-loop μ-loop
-words-well-requires c κs = omega arith
+words-well-requires c κs = own-eight _ _ _ (omega arith) (c .before .type-words .ensures)
 
 refused-requires : tie.Need-refused-requires Inv-loop μ-loop
 refused-requires c κs = omega arith
@@ -42,7 +46,7 @@ returns c = λ tags.
     let w = c .before .before in
     c .refused .ensures
     ∙ row-no (round w .loop .inv) tags (omega arith)
-    (fields-no _ tags _ _ (w .before .head .ensures) (test-false (w .words-well .ensures) (c .before .if1 .taken)))
+    (fields-no _ tags _ _ (w .before .head .ensures) _ (w .before .before .type-words .ensures) (test-false (w .words-well .ensures) (c .before .if1 .taken)))
 
 add-t : tie.Need-add-t Inv-loop μ-loop
 add-t c = omega arith
@@ -54,7 +58,7 @@ loop-again : tie.Need-loop-again Inv-loop μ-loop
 loop-again c =
     let w = c .before in
     row-yes (round w .loop .inv) (omega arith)
-    (λ tags. fields-yes _ tags _ _ (w .before .head .ensures) (test-true (w .words-well .ensures) (c .if1 .left)))
+    (λ tags. fields-yes _ tags _ _ (w .before .head .ensures) _ (w .before .before .type-words .ensures) (test-true (w .words-well .ensures) (c .if1 .left)))
 
 passed-requires : tie.Need-passed-requires Inv-loop μ-loop
 passed-requires c κs = tt
@@ -69,6 +73,7 @@ field-words-spec =
     Inv-loop
     μ-loop
     loop-holds
+    type-words-requires
     cast-words-well
     head-requires
     words-well-requires

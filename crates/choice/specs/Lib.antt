@@ -1,0 +1,2 @@
+-- Definitions of the crate.
+pub mod Choices
