@@ -72,6 +72,11 @@ module _ (κs : Lfts 5) (types tags blocks code offered : Lent) where
       ↔ FillGave (now types) (now tags) (codeOf (now blocks) (now code)) (now offered) a (now (atExit fill.ended κs to-fill last .1 .1 .0))
   fill-gives a last = (λ l. l, λ g. g)
 
+  -- of its tables it writes the block table alone
+  pub fill-lent : (last : Lasts fill.ended κs to-fill) → let left = atExit fill.ended κs to-fill last in
+      (left .0 ≡ types) × (left .1 .0 ≡ tags) × (left .1 .1 .1 .0 ≡ code) × (left .1 .1 .1 .1 .0 ≡ offered)
+  fill-lent last = (refl, refl, refl, refl)
+
 module _ (κs : Lfts 4) (types tags allocations memory : Lent) where
   abbrev to-memory-check : Args memory_check.signature κs
   to-memory-check = (types, (tags, (allocations, (memory, tt))))

@@ -15,7 +15,8 @@ use Rattle.model.specs.Reading.{laidAt}
 use Rattle.model.specs.Check.{checkAsk, check}
 use Rattle.model.specs.Blank.{isBlank, blanksFrom, blanksOf, offeredRow, offers, Choice, none, more, filled, inForce, openAnnotationsAsk, offeredRowsAsk}
 use Rattle.model.specs.Blank.{openQuestions, filledWith}
-use Rattle.model.proofs.Logic.{byTest, byEqual, byLess, and-true, every-true, ask-ok, ok-ask, then-ok, firstNo-ok, all-passed, passed-all, verdict-ok, pick-both}
+use Rattle.model.proofs.Logic.{byTest, byEqual, byLess, and-true, every-true, ask-ok, ok-ask, then-ok, firstNo-ok, all-passed, passed-all}
+use Rattle.model.proofs.Logic.{verdict-ok, pick-both}
 use Rattle.model.proofs.Lists.{Member, first, later, length-laid, laid-below, laid-above}
 use Rattle.model.proofs.Joined.{no-member}
 use Rattle.model.proofs.Rows.{head-at}
