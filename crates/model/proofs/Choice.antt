@@ -77,6 +77,8 @@ with-nowhere k (found d) e = absurd (found-not (sym e))
 -- where it finds nothing, no choice passes
 pub search-nowhere : (test : List ℕ → Bool) (most n : ℕ) → search test most n ≡ nowhere → (d : List ℕ) → Choice most n d → test d ≡ true → ⊥
 unfolding search
+search-nowhere test most zero e (k ∷ ks) C t = elim C [ ]
+search-nowhere test most (suc n) e [] C t = elim C [ ]
 search-nowhere test most zero e [] none t = found-not (sym (rw t at e))
 search-nowhere test most (suc n) e (k ∷ ks) (more l C) t =
     search-nowhere (λ c. test (k ∷ c)) most n (with-nowhere k _ (try-nowhere most 0 _ e k (omega arith) (omega arith))) ks C t
@@ -122,6 +124,7 @@ search-found test most (suc n) c e =
   where
     first-least : (k : ℕ) (ks : List ℕ) → ((j : ℕ) → 0 ≤ j → j < k → with j (search (λ x. test (j ∷ x)) most n) ≡ nowhere)
         → Least (λ x. test (k ∷ x)) most n ks → (d : List ℕ) → Choice most (suc n) d → Before d (k ∷ ks) → test d ≡ true → ⊥
+    first-least k ks h L [] C b t = elim C [ ]
     first-least k ks h L (j ∷ js) (more l C) b t =
         either (before_more b k ks refl j js refl)
         (λ u. search-nowhere (λ x. test (j ∷ x)) most n (with-nowhere j _ (h j (omega arith) u)) js C t)
@@ -129,6 +132,10 @@ search-found test most (suc n) c e =
 
 -- of two choices for the same blocks one is before the other, or they are one
 before-either : (most n : ℕ) (c d : List ℕ) → Choice most n c → Choice most n d → Before c d ⊎ ((c ≡ d) ⊎ Before d c)
+before-either most zero [] (k ∷ ks) _ D = elim D [ ]
+before-either most zero (j ∷ js) d C _ = elim C [ ]
+before-either most (suc n) [] d C _ = elim C [ ]
+before-either most (suc n) (j ∷ js) [] _ D = elim D [ ]
 before-either most zero [] [] none none = inr (inl refl)
 before-either most (suc n) (j ∷ js) (k ∷ ks) (more l C) (more m D) =
     by_less j k (λ h. inl (here h)) (λ h.
@@ -180,6 +187,7 @@ order_below : (qs : List (Outcome (Unit {0}))) → Each Below33 qs → Below33 (
 order_below qs E r e = go E (first-refused qs r e)
   where
     go : {qs : List (Outcome (Unit {0}))} → Each Below33 qs → FirstRefused r qs → number_of r.question ≤ 32
+    go none F = elim F [ ]
     go (more h E) (at_once e) = h r e
     go (more h E) (further p F) = go E F
 

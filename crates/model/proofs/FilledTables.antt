@@ -46,6 +46,7 @@ module _ (offered : List ℕ) where
   pub head-filled : (T ds ks : List ℕ) → Choice (offers offered) (length ds) ks → (b : ℕ) → head_of (filled T offered ds ks) b ≡ head_of T b
   unfolding filled
   head-filled T [] ks C b = refl
+  head-filled T (d ∷ ds) [] C b = elim C [ ]
   head-filled T (d ∷ ds) (k ∷ ks) (more p C) b =
       head-filled (laid_at T (d * 9 + 1) (offered_row offered k)) ds ks C b ∙ head-laid T (offered_row offered k) d b (row-eight offered k p)
 
@@ -59,6 +60,8 @@ module _ (offered : List ℕ) where
 
 pub choice-length : (most n : ℕ) (c : List ℕ) → Choice most n c → length c ≡ n
 choice-length most zero [] none = refl
+choice-length most zero (k ∷ ks) C = elim C [ ]
+choice-length most (suc n) [] C = elim C [ ]
 choice-length most (suc n) (k ∷ ks) (more p C) = ap suc (choice-length most n ks C)
 
 -- a filled table goes by the places of its blocks alone
@@ -69,7 +72,7 @@ filled-same T offered [] c e l m h = refl
 filled-same T offered (d ∷ ds) [] e l m h = absurd (omega arith)
 filled-same T offered (d ∷ ds) (j ∷ c) [] l m h = absurd (omega arith)
 filled-same T offered (d ∷ ds) (j ∷ c) (k ∷ e) l m h =
-    rw (h 0 (omega arith)) (filled-same _ offered ds c e (omega arith) (omega arith) (λ i u. h (suc i) (omega arith)))
+    rw (h 0 (omega arith)) (filled-same (laid_at T (d * 9 + 1) (offered_row offered k)) offered ds c e (omega arith) (omega arith) (λ i u. h (suc i) (omega arith)))
 
 pub filled-three : (T offered ds c : List ℕ) → length ds ≤ 3 → length c ≡ length ds
     → filled T offered ds (get_or c 0 0 ∷ get_or c 1 0 ∷ get_or c 2 0 ∷ []) ≡ filled T offered ds c
@@ -120,6 +123,7 @@ member-later (later m) n = m
 force-holds : (Q : List ℕ → Type 0) (T offered ds ks : List ℕ) (b : ℕ) → Choice (offers offered) (length ds) ks
     → ((k : ℕ) → k < offers offered → Q (offered_row offered k)) → ((Member b ds → ⊥) → Q (words_of T b)) → Q (in_force T offered ds ks b)
 force-holds Q T offered [] ks b C each own = own (no_member b)
+force-holds Q T offered (d ∷ ds) [] b C each own = elim C [ ]
 force-holds Q T offered (d ∷ ds) (k ∷ ks) b (more p C) each own =
     pick-both Q (eqb b d) _ _ (λ q. each k p)
     (λ q. force-holds Q T offered ds ks b C each (λ n. own (λ m. n (member-later m (eqb-false b d q)))))

@@ -85,6 +85,7 @@ module _ (offered : List ℕ) where
       → b < high → in_force T offered ds ks b ≡ words_of (filled T offered ds ks) b
   unfolding filled
   in-force high T [] ks low b h R C l = refl
+  in-force high T (d ∷ ds) [] low b h R C l = elim C [ ]
   in-force high T (d ∷ ds) (k ∷ ks) low b h (next u v R) (more p C) l =
       let row = offered_row offered k in
       let eight = row-eight k p in

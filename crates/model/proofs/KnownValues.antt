@@ -11,7 +11,7 @@ use Rattle.model.specs.Types.{name, any, same, type_of, rename}
 use Rattle.model.specs.Rules.{Known}
 use Rattle.model.specs.Values.{Values, birthplace, typed, constant_held, own_constant}
 use Rattle.model.proofs.Logic.{by_test}
-use Rattle.model.proofs.Lists.{Member, first}
+use Rattle.model.proofs.Lists.{later, Member, first}
 
 -- a constant c is held as suc c, 0 where there is none
 abbrev pub option_of : ℕ → Option ℕ
@@ -23,7 +23,9 @@ option_is zero c e = absurd (let z : ◌≡◌ {A = ℕ} 0 1 = cc in omega arith
 option_is (suc n) c e = ap suc (some-injective n c e)
 
 pub held-is : (n c : ℕ) → Member c (constant_held n) → n ≡ suc c
+held-is zero c m = elim m [ ]
 held-is (suc n) c first = refl
+held-is (suc n) c (later m) = elim m [ ]
 
 pub is_held : (n c : ℕ) → n ≡ suc c → Member c (constant_held n)
 is_held n c e = rw e first

@@ -214,8 +214,11 @@ in-order-append (q ∷ qs) more = go q (in-order-append qs more)
 
 pub refused-first : (qs : List (Outcome (Unit {0}))) (r : Refusal) → FirstRefused r qs → in_order qs ≡ refused r
 unfolding in_order
-refused-first qs r (at_once {q = q} e) = refused-then q _ r e
-refused-first qs r (further {q = q} {rest = rest} p F) = ok-then q _ tt p ∙ refused-first rest r F
+refused-first qs r F = go qs F
+  where
+    go : (qs : List (Outcome (Unit {0}))) → FirstRefused r qs → in_order qs ≡ refused r
+    go qs (at_once {q = q} e) = refused-then q _ r e
+    go qs (further {q = q} {rest = rest} p F) = ok-then q _ tt p ∙ go rest F
 
 pub no-first_no : (n i : ℕ) (f : ℕ → Outcome (Unit {0})) (r : Refusal) → FirstNo n i f r → first_no n i f ≡ refused r
 unfolding first_no

@@ -178,6 +178,7 @@ module _ (𝒯 : Tables) (P : Routine) (st : Reading) (g : ℕ) (T : Tidy st g) 
 
   no_edges : (e : End) (q : Question) → EdgesNo 𝒯 P b (state_of st) e q → read_edges 𝒯 P place b e st ≡ refused (place q)
   unfolding read_edges
+  no_edges halt q n = elim n [ ]
   no_edges (jump t) q (jump_no K N) = no-ask _ _ _ (not-meets _ _ t (taken-one 𝒯 (state_of st) (jump-tells 𝒯 st g T few t) K) N)
   no_edges (if_equal x k t) q (equal_no K N) = no-ask _ _ _ (not-meets _ _ t (taken-one 𝒯 (state_of st) (equal-tells 𝒯 st g T few x k t) K) N)
   no_edges (if_equal x k t) q (not_equal_no K M L N) =
@@ -264,7 +265,7 @@ module _ (types tags : List ℕ) (C : Code) where
       record {
         reading = Q.reading;
         reads = ok-then _ _ st₀ I.reads ∙ ap (λ (y : Instruction). asks_here b j y st₀) h ∙ ok-ask _ _ _ inside ∙ Q.passes;
-        is = Q.Holds-after;
+        is = Q.holds_after;
       }
 
   -- one state holds before an instruction
@@ -340,6 +341,7 @@ module _ (types tags : List ℕ) (C : Code) where
       (st, ok-then _ _ st₀ I.reads ∙ q)
     where
       go : (st₀ : Reading) → Tidy st₀ (suc j) → (x : Instruction) → Fine x → Obeys 𝒯' P' b j (state_of st₀) x → (st : Reading) × (asks_here b j x st₀ ≡ ok st)
+      go st₀ T malformed F O = elim O [ ]
       go st₀ T (plain x) F (in_block {s' = s'} d D) =
           let Q = of-rule b j (omega arith) st₀ s' T x F D in
           (Q.reading, ok-ask _ _ _ (not_last b j d) ∙ Q.passes)

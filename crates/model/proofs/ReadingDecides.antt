@@ -477,5 +477,12 @@ module _ (𝒯 : Tables) where
 
     pub refused-plain : (x : Plain) (q : Question) → PlainNo 𝒯 (state_of st) x q → read_plain 𝒯 place (suc j) x st ≡ refused (place q)
     unfolding read_plain
+    refused-plain (constant _ _) q n = elim n [ ]
+    refused-plain (copy _ _) q n = elim n [ ]
+    refused-plain (add _ _ _) q n = elim n [ ]
+    refused-plain (subtract _ _ _) q n = elim n [ ]
+    refused-plain (multiply _ _ _) q n = elim n [ ]
+    refused-plain (divide _ _ _) q n = elim n [ ]
+    refused-plain (move _ _ _) q n = elim n [ ]
     refused-plain (load a b c) q (load_no N) = refused-access to_load b c _ q N
     refused-plain (store a b c) q (store_no N) = refused-access to_store b c _ q N

@@ -243,10 +243,15 @@ module _ (𝒯 : Tables) where
       rw (get_or-set_same s₁.registers a (get_or fs c 0) 0 (rw (sees-registers j (holds s b) t s s₁ fs S) r))
       (sees-after k j (holds s b) t c s s₁ fs h l S H)
 
+  seen-new : (j v t c : ℕ) (s s' : BlockState) (fs : List ℕ) → c < 8 → s.seen v ≡ none → Sees 𝒯 j v t s fs s' → get_or fs c 0 ≡ made j c
+  seen-new j v t c s s' fs h n (newly e) = made_at j c h
+  seen-new j v t c s s' fs h n (again e) = absurd (none-not-some (sym n ∙ e))
+
   load-made : (j a b c : ℕ) (s s' : BlockState) → c < 8 → a < length s.registers → s.seen (holds s b) ≡ none → Reads 𝒯 j s (load a b c) s'
       → holds s' a ≡ made j c
-  load-made j a b c s s' h r n (loads A (newly e)) = get_or-set_same s.registers a (get_or (eight_made j) c 0) 0 r ∙ made_at j c h
-  load-made j a b c s s' h r n (loads A (again e)) = absurd (none-not-some (sym n ∙ e))
+  load-made j a b c s s' h r n (loads {t = t} {fields = fs} {s' = s₁} A S) =
+      get_or-set_same s₁.registers a (get_or fs c 0) 0 (rw (sees-registers j (holds s b) t s s₁ fs S) r)
+      ∙ seen-new j (holds s b) t c s s₁ fs h n S
 
 -- ---- the laws, of a block of a routine whose tables have no no
 
@@ -275,8 +280,11 @@ module _ (types tags : List ℕ) (C : Code) (tables : tables_ask types tags C �
   reach-on j x s s' R D = reads_on R D.is D.inside D.reads
 
   reach-between : (D : ℕ → BlockState → Plain → Type 0) (i j : ℕ) (s s' : BlockState) → Reaches 𝒯' P' n i s → Between D i s j s' → Reaches 𝒯' P' n j s'
-  reach-between D i j s s' R none_yet = R
-  reach-between D i j s s' R (and_then {j = k} {x = x} {s' = s₁} B A N) = reach-on k x s₁ s' (reach-between D i k s s₁ R B) A
+  reach-between D i j s s' R B = go j s' B
+    where
+      go : (j : ℕ) (s' : BlockState) → Between D i s j s' → Reaches 𝒯' P' n j s'
+      go j s' none_yet = R
+      go j s' (and_then {j = k} {x = x} {s' = s₁} B A N) = reach-on k x s₁ s' (go k s₁ B) A
 
   -- Q7 and the entry: a register that an instruction names is one of eight that are held
   reached-registers : (j : ℕ) (s : BlockState) → Reaches 𝒯' P' n j s → length s.registers ≡ 8
@@ -304,8 +312,11 @@ module _ (types tags : List ℕ) (C : Code) (tables : tables_ask types tags C �
   store-offset j a b c s s' (closes {t = t} A S N) = omega (arith, A.below, size-eight t)
 
   between-keeps : (v c w i j : ℕ) (s s' : BlockState) → Between (Spares 𝒯' v c) i s j s' → Shows 𝒯' s v c w → Shows 𝒯' s' v c w
-  between-keeps v c w i j s s' none_yet H = H
-  between-keeps v c w i j s s' (and_then {j = k} {x = x} {s' = s₁} B A N) H = keeps 𝒯' k v c w s₁ s' x N A.reads (between-keeps v c w i k s s₁ B H)
+  between-keeps v c w i j s s' B H = go j s' B
+    where
+      go : (j : ℕ) (s' : BlockState) → Between (Spares 𝒯' v c) i s j s' → Shows 𝒯' s' v c w
+      go j s' none_yet = H
+      go j s' (and_then {j = k} {x = x} {s' = s₁} B A N) = keeps 𝒯' k v c w s₁ s' x N A.reads (go k s₁ B)
 
   -- 01: 'Two loads of one field through one value give the same value unless a store closed between them' (or stored to that very
   -- field through that value, while open: then the next law holds)
@@ -341,18 +352,24 @@ module _ (types tags : List ℕ) (C : Code) (tables : tables_ask types tags C �
 
   between-after : (k v c i j : ℕ) (s s' : BlockState) → c < 8 → k < i → Between (NoStore v c) i s j s' → MadeAfter 𝒯' k s v c
       → (i ≤ j) × MadeAfter 𝒯' k s' v c
-  between-after k v c i j s s' h l none_yet H = (omega arith, H)
-  between-after k v c i j s s' h l (and_then {j = m} {x = x} {s' = s₁} B A N) H =
-      let (le, I) = between-after k v c i m s s₁ h l B H in
-      (omega arith, stays_after 𝒯' k m v c s₁ s' x h (omega arith) N A.reads I)
+  between-after k v c i j s s' h l B H = go j s' B
+    where
+      go : (j : ℕ) (s' : BlockState) → Between (NoStore v c) i s j s' → (i ≤ j) × MadeAfter 𝒯' k s' v c
+      go j s' none_yet = (omega arith, H)
+      go j s' (and_then {j = m} {x = x} {s' = s₁} B A N) =
+          let (le, I) = go m s₁ B in
+          (omega arith, stays_after 𝒯' k m v c s₁ s' x h (omega arith) N A.reads I)
 
   -- any instructions
   abbrev pub Whatever : ℕ → BlockState → Plain → Type 0
   Whatever j s x = Unit {0}
 
   between-on : (i j : ℕ) (s s' : BlockState) → Between Whatever i s j s' → i ≤ j
-  between-on i j s s' none_yet = omega arith
-  between-on i j s s' (and_then {j = k} {s' = s₁} B A N) = omega (arith, between-on i k s s₁ B)
+  between-on i j s s' B = go j s' B
+    where
+      go : (j : ℕ) (s' : BlockState) → Between Whatever i s j s' → i ≤ j
+      go j s' none_yet = omega arith
+      go j s' (and_then {j = k} {s' = s₁} B A N) = omega (arith, go k s₁ B)
 
   -- 01: 'unless a store closed between them': a load, then a store at k that closes, then a load of that field through that value. What
   -- they give differs, unless a store after the close put something in that very field (then stored-load says what the second gives)

@@ -201,6 +201,7 @@ module _ where
   opening-no C memory b r (further p (at_once e)) = blocks-no C.blocks (length C.code) _ 0 0 r e
   opening-no C memory b r (further p (further p' (at_once e))) = asked-refused OpensBy _ (refusal q16 0 0) r _ opens-16 done e
   opening-no C memory b r (further p (further p' (further p'' (at_once e)))) = asked-refused OpensBy _ (refusal q17 0 0) r _ opens-17 done e
+  opening-no C memory b r (further p (further p' (further p'' (further _ F)))) = elim F [ ]
 
 module _ (C : Code) (memory : List ℕ) (g : Ready) (budget : ℕ) where
   abbrev Ends : Run → Type 0

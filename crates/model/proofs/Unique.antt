@@ -117,6 +117,7 @@ module _ (𝒯 : Tables) (vs : Values) where
   -- a list of which k is the only member, and k a tag
   only-tag : (k : ℕ) (ks : List ℕ) → k < length 𝒯.tags → Member k ks → ((x : ℕ) → Member x ks → x ≡ k) → first_tag 𝒯 ks ≡ To (get_or 𝒯.tags k 0)
   unfolding first_tag
+  only-tag k [] l m h = elim m [ ]
   only-tag k (x ∷ ks) l m h = let e : x ≡ k = h x first in rw (e, lt-ltb k (length 𝒯.tags) l)
 
   module _ (g : ℕ) (T : TidyValues vs g) where
