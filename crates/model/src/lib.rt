@@ -1,4 +1,6 @@
 // The shapes that the definitions of document 01 and the code share. The definitions stand in specs/.
+#![tactic(auto)]
+
 ghost use Rattle.std.specs.Prelude.{◌≡◌, eqb};
 
 pub mod limit;

@@ -1,4 +1,6 @@
 // The tables: rows, lengths (Q1), field counts, type words and tags (Q2 to Q4), block lengths and annotations (Q5, Q6).
+#![tactic(auto)]
+
 ghost use Rattle.std.specs.Prelude.{◌≡◌, List, ℕ, ◌+◌, ◌*◌, ◌≤◌, ◌<◌, length, get_or, ltb, leb, eqb};
 ghost use Rattle.model.specs.Question.{◌and◌, pick, every, first_no, verdict_of};
 ghost use Rattle.model.specs.Word.{kind_of};

@@ -1,4 +1,6 @@
 // 32-bit words: sums, differences, products and moves modulo 2^32, the signed offset, bytes, and the parts of type words and instructions.
+#![tactic(auto)]
+
 ghost use Rattle.std.specs.Prelude.{◌≡◌, ◌/◌, ◌<◌};
 ghost use Rattle.model.specs.Word.{kind_of, locked_of, record_of, first_of, second_of, opcode_of, a_of, b_of, c_of, sum, difference, product, signed, moved, with_kind};
 

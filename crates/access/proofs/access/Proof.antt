@@ -89,8 +89,8 @@ returns-2 c =
           (access-asked (parts w) (start w).pre.0 _ _ _ (sym t.t.given.1 ∙ r.reference.ensures _) _ o.opcode.ensures.0);
     }
 
-pub access-spec : {M : Type 1} → statement M
-access-spec =
+pub access_spec : {M : Type 1} → statement M
+access_spec =
     tie.close
     (tie.spec
     a-requires

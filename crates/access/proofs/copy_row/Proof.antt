@@ -46,8 +46,8 @@ loop-again c =
 returns : tie.Need-returns invariant-loop decreases-loop
 returns c = let a = c.before in sym (a.loop.invariant.0 ∙ laid_end _ _ a.before.args.row.now a.loop.k (omega arith))
 
-pub copy-row-spec : {M : Type 1} → statement M
-copy-row-spec =
+pub copy_row_spec : {M : Type 1} → statement M
+copy_row_spec =
     tie.close
     (tie.spec
     invariant-loop

@@ -13,5 +13,5 @@ locked-requires c κs = search rules
 returns : tie.Need-returns
 returns c = λ tags. may-store _ _ _ _ _ _ c.before.type-word.ensures c.locked.ensures
 
-pub may-store-spec : {M : Type 1} → statement M
-may-store-spec = tie.close (tie.spec type-word-requires locked-requires returns)
+pub may_store_spec : {M : Type 1} → statement M
+may_store_spec = tie.close (tie.spec type-word-requires locked-requires returns)

@@ -10,5 +10,5 @@ returns c = touch-free c.before.args.base c.before.args.v (omega arith)
 returns-2 : tie.Need-returns-2
 returns-2 c = touch-own c.before.args.base c.before.args.v (omega arith)
 
-pub may-touch-spec : {M : Type 1} → statement M
-may-touch-spec = tie.close (tie.spec returns returns-2)
+pub may_touch_spec : {M : Type 1} → statement M
+may_touch_spec = tie.close (tie.spec returns returns-2)

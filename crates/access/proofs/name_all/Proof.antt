@@ -7,8 +7,8 @@ use Rattle.access.proofs.name_all.Tie as tie
 returns : tie.Need-returns
 returns c = names-are _
 
-pub name-all-spec : {M : Type 1} → statement M
-name-all-spec =
+pub name_all_spec : {M : Type 1} → statement M
+name_all_spec =
     tie.close
     (tie.spec
     (λ c. search rules)

@@ -20,5 +20,5 @@ shared-slice-read-result c = search rules
 returns-2 : tie.Need-returns-2
 returns-2 c = (size-at _ _, λ h. omega arith)
 
-pub size-spec : {M : Type 1} → statement M
-size-spec = tie.close (tie.spec mul_at returns mul-result shared-slice-read-result returns-2)
+pub size_spec : {M : Type 1} → statement M
+size_spec = tie.close (tie.spec mul_at returns mul-result shared-slice-read-result returns-2)

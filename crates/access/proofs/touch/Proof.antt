@@ -111,8 +111,8 @@ returns-3 c =
           (store-asked _ _ _ _ _ _ _ (size_is s _) (known i).offset _ refl e.if2.left);
     }
 
-pub touch-spec : {M : Type 1} → statement M
-touch-spec =
+pub touch_spec : {M : Type 1} → statement M
+touch_spec =
     tie.close
     (tie.spec
     size-requires

@@ -61,8 +61,8 @@ returns-2 c =
     g.answered.ensures
     c.ended.ensures
 
-pub answer-spec : {M : Type 1} → statement M
-answer-spec =
+pub answer_spec : {M : Type 1} → statement M
+answer_spec =
     tie.close
     (tie.spec
     has-answer-requires

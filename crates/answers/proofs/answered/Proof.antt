@@ -27,5 +27,5 @@ returns-2 c =
     (sym (pick-false _ _ _ (ne_eqb _ _ r.before.before.before.if1.false)))
     r.request.ensures
 
-pub answered-spec : {M : Type 1} → statement M
-answered-spec = tie.close (tie.spec unread-requires returns request-requires same_length returns-2)
+pub answered_spec : {M : Type 1} → statement M
+answered_spec = tie.close (tie.spec unread-requires returns request-requires same_length returns-2)

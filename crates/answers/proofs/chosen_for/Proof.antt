@@ -9,5 +9,5 @@ returns c = rows-chosen _ _ c.if1.true
 returns-2 : tie.Need-returns-2
 returns-2 c = rows_none _ _ c.if1.false
 
-pub chosen-for-spec : {M : Type 1} → statement M
-chosen-for-spec = tie.close (tie.spec returns returns-2)
+pub chosen_for_spec : {M : Type 1} → statement M
+chosen_for_spec = tie.close (tie.spec returns returns-2)

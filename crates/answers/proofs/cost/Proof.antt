@@ -29,8 +29,8 @@ returns-2 c =
       omega (arith, t.text.ensures.end),
     )
 
-pub cost-spec : {M : Type 1} → statement M
-cost-spec =
+pub cost_spec : {M : Type 1} → statement M
+cost_spec =
     tie.close
     (tie.spec
     returns

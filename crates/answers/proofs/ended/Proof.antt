@@ -24,5 +24,5 @@ returns c =
     c.before.line-end.ensures
     c.is-refusal.ensures
 
-pub ended-spec : {M : Type 1} → statement M
-ended-spec = tie.close (tie.spec remark-requires line-end-requires is-refusal-requires returns)
+pub ended_spec : {M : Type 1} → statement M
+ended_spec = tie.close (tie.spec remark-requires line-end-requires is-refusal-requires returns)

@@ -9,5 +9,5 @@ returns c = answers-malformed c.before.args.phase c.if1.true
 returns-2 : tie.Need-returns-2
 returns-2 c = answers-request c.before.args.phase c.if1.false
 
-pub has-answer-spec : {M : Type 1} → statement M
-has-answer-spec = tie.close (tie.spec returns returns-2)
+pub has_answer_spec : {M : Type 1} → statement M
+has_answer_spec = tie.close (tie.spec returns returns-2)

@@ -12,5 +12,5 @@ returns-2 c = let e = c.before in paused-row e.before.args.row e.if1.false c.if2
 returns-3 : tie.Need-returns-3
 returns-3 c = let e = c.before in other_row e.before.args.row e.if1.false c.if2.false
 
-pub is-refusal-spec : {M : Type 1} → statement M
-is-refusal-spec = tie.close (tie.spec returns returns-2 returns-3)
+pub is_refusal_spec : {M : Type 1} → statement M
+is_refusal_spec = tie.close (tie.spec returns returns-2 returns-3)

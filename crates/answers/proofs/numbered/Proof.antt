@@ -28,5 +28,5 @@ returns-2 c =
       omega arith,
     )
 
-pub numbered-spec : {M : Type 1} → statement M
-numbered-spec = tie.close (tie.spec returns number-requires put-requires returns-2)
+pub numbered_spec : {M : Type 1} → statement M
+numbered_spec = tie.close (tie.spec returns number-requires put-requires returns-2)

@@ -32,5 +32,5 @@ returns c =
     r.run.ensures
     c.printed.ensures
 
-pub ran-spec : {M : Type 1} → statement M
-ran-spec = tie.close (tie.spec run-requires printed-requires same_length returns)
+pub ran_spec : {M : Type 1} → statement M
+ran_spec = tie.close (tie.spec run-requires printed-requires same_length returns)

@@ -38,5 +38,5 @@ returns-2 c =
     c.rows.ensures.0
     c.rows.ensures.1
 
-pub remark-spec : {M : Type 1} → statement M
-remark-spec = tie.close (tie.spec returns explain-requires cost-requires rows-requires returns-2)
+pub remark_spec : {M : Type 1} → statement M
+remark_spec = tie.close (tie.spec returns explain-requires cost-requires rows-requires returns-2)

@@ -92,8 +92,8 @@ returns-4 c =
     (asks-run (form k) (parts k) (longs k) e.before.before.if1.false e.before.if2.false _ e.if3.false r.before.before.before.long.ensures)
     r.run-request.ensures
 
-pub request-spec : {M : Type 1} → statement M
-request-spec =
+pub request_spec : {M : Type 1} → statement M
+request_spec =
     tie.close
     (tie.spec
     check-requires

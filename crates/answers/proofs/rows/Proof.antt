@@ -54,8 +54,8 @@ returns-2 c =
       omega (arith, slice-aggregate-words k, t.text.ensures.end, c.words.ensures.1),
     )
 
-pub rows-spec : {M : Type 1} → statement M
-rows-spec =
+pub rows_spec : {M : Type 1} → statement M
+rows_spec =
     tie.close
     (tie.spec
     returns

@@ -67,8 +67,8 @@ returns c =
     d.part4.ensures
     c.before.before.ran.ensures
 
-pub run-request-spec : {M : Type 1} → statement M
-run-request-spec =
+pub run_request_spec : {M : Type 1} → statement M
+run_request_spec =
     tie.close
     (tie.spec
     part-requires

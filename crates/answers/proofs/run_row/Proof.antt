@@ -9,5 +9,5 @@ returns c = row-halted c.before.args.number c.if1.true
 returns-2 : tie.Need-returns-2
 returns-2 c = row_other c.before.args.number c.if1.false
 
-pub run-row-spec : {M : Type 1} → statement M
-run-row-spec = tie.close (tie.spec returns returns-2)
+pub run_row_spec : {M : Type 1} → statement M
+run_row_spec = tie.close (tie.spec returns returns-2)

@@ -46,8 +46,8 @@ returns c =
     let f = first s in
     all_listed _ f.before.before.pre _ _ _ _ f.next-blank.ensures s.next-blank2.ensures t.next-blank3.ensures c.next-blank4.ensures
 
-pub blank-blocks-spec : {M : Type 1} → statement M
-blank-blocks-spec =
+pub blank_blocks_spec : {M : Type 1} → statement M
+blank_blocks_spec =
     tie.close
     (tie.spec
     next-blank-requires

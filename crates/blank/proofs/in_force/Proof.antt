@@ -66,8 +66,8 @@ returns-4 c =
     let o = other-2 t in
     rw (ne_eqb _ _ (other-1 o).if1.left, ne_eqb _ _ o.if2.left, ne_eqb _ _ t.if3.false) c.type-words.ensures
 
-pub in-force-spec : {M : Type 1} → statement M
-in-force-spec =
+pub in_force_spec : {M : Type 1} → statement M
+in_force_spec =
     tie.close
     (tie.spec
     nearer-requires

@@ -46,6 +46,6 @@ loop-again c =
 returns-2 : tie.Need-returns-2 invariant-loop decreases-loop
 returns-2 c = let l = c.before.loop in every-end _ 8 l.f _ l.invariant.0 (omega arith)
 
-pub is-blank-spec : {M : Type 1} → statement M
-is-blank-spec =
+pub is_blank_spec : {M : Type 1} → statement M
+is_blank_spec =
     tie.close (tie.spec invariant-loop decreases-loop loop-holds mul-if1 shared-slice-read-if1 returns add-f loop-less loop-again returns-2)

@@ -18,5 +18,5 @@ returns-2 : tie.Need-returns-2
 unfolding ◌or◌
 returns-2 c = rw (← c.before.before.annotation-well.ensures, c.before.if1.false) c.is-blank.ensures
 
-pub may-stand-spec : {M : Type 1} → statement M
-may-stand-spec = tie.close (tie.spec annotation-well-requires returns is-blank-requires returns-2)
+pub may_stand_spec : {M : Type 1} → statement M
+may_stand_spec = tie.close (tie.spec annotation-well-requires returns is-blank-requires returns-2)

@@ -105,9 +105,9 @@ nearer-meets {𝓤 = 𝓤} 𝓛 mem run 𝓣 =
     (Goes-none_slice 𝓛 2 (0 ∷ []) tt (plain (λ _. u32)) yes, (Goes-none_slice 𝓛 2 (1 ∷ []) tt (plain (λ _. u32)) yes, tt))
     (nearer.clauses 𝓛 mem run) (WpFn 𝓤 𝓛.H 𝓣.C 𝓣.Λ code.function) (WpFn-mono 𝓤 𝓛.H 𝓛.laws 𝓣 code.function) (nearer-walks 𝓛 mem run 𝓣.C 𝓣.Λ)
 
-pub nearer-spec : {M : Type 1} → stated.statement M
+pub nearer_spec : {M : Type 1} → stated.statement M
 unfolding code.routine tables_of
-nearer-spec 𝓤 𝓛 𝓜 𝓡 =
+nearer_spec 𝓤 𝓛 𝓜 𝓡 =
     entered 𝓤 𝓛.H (triple_of 𝓛 nearer.signature (nearer.spec 𝓛 𝓜.mem 𝓡.run))
     (tables 𝓤 𝓛.H 𝓜 𝓡 code.env).C (tables 𝓤 𝓛.H 𝓜 𝓡 code.env).Λ #nearer code.function (code.unfolded 𝓤 𝓛.H 𝓜 𝓡)
     (nearer-meets 𝓛 𝓜.mem 𝓡.run (tables_of 𝓤 𝓛.H 𝓜 (tables 𝓤 𝓛.H 𝓜 𝓡 code.env)))

@@ -57,7 +57,7 @@ returns-2 c =
     let l = c.before.loop in
     record { within = omega arith; found = λ h. absurd (omega arith); none = λ h. l.invariant ∙ blanks-end _ _ (omega arith) }
 
-pub next-blank-spec : {M : Type 1} → statement M
-next-blank-spec =
+pub next_blank_spec : {M : Type 1} → statement M
+next_blank_spec =
     tie.close
     (tie.spec invariant-loop decreases-loop loop-holds type-words-requires is-blank-requires returns add-b loop-less loop-again returns-2)

@@ -27,6 +27,6 @@ passed-requires c κs = search rules
 returns-3 : tie.Need-returns-3
 returns-3 c = c.passed.ensures ∙ length-well _ c.before.before.if1.false (omega arith)
 
-pub offered-length-spec : {M : Type 1} → statement M
-offered-length-spec =
+pub offered_length_spec : {M : Type 1} → statement M
+offered_length_spec =
     tie.close (tie.spec refused-requires returns mul-if2 refused-requires-2 returns-2 passed-requires returns-3)

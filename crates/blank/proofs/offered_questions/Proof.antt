@@ -30,6 +30,6 @@ returns-3 c =
     λ blocks most e.
     at_last (after-yes (three-blank _ blocks _ most _ e l.before.if1.false) l.offered-length.ensures p.if2.false) c.offered-rows.ensures
 
-pub offered-questions-spec : {M : Type 1} → statement M
-offered-questions-spec =
+pub offered_questions_spec : {M : Type 1} → statement M
+offered_questions_spec =
     tie.close (tie.spec refused-requires returns offered-length-requires returns-2 offered-rows-requires returns-3)

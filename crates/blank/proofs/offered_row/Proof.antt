@@ -27,6 +27,6 @@ returns : tie.Need-returns
 unfolding offered_row
 returns c = rw add-sub_cancel_left
 
-pub offered-row-spec : {M : Type 1} → statement M
-offered-row-spec =
+pub offered_row_spec : {M : Type 1} → statement M
+offered_row_spec =
     tie.close (tie.spec mul_at add-end mul-result sub-result part-result-start part-result-end returns)

@@ -58,8 +58,8 @@ passed-requires c κs = tt
 returns-2 : tie.Need-returns-2 invariant-loop decreases-loop
 returns-2 c = c.passed.ensures ∙ rows_end c.before.before.loop.invariant tt (omega arith)
 
-pub offered-rows-spec : {M : Type 1} → statement M
-offered-rows-spec =
+pub offered_rows_spec : {M : Type 1} → statement M
+offered_rows_spec =
     tie.close
     (tie.spec
     invariant-loop

@@ -59,8 +59,8 @@ passed-requires c κs = tt
 returns-2 : tie.Need-returns-2 invariant-loop decreases-loop
 returns-2 c = c.passed.ensures ∙ rows_end c.before.before.loop.invariant tt (omega arith)
 
-pub open-annotations-spec : {M : Type 1} → statement M
-open-annotations-spec =
+pub open_annotations_spec : {M : Type 1} → statement M
+open_annotations_spec =
     tie.close
     (tie.spec
     invariant-loop

@@ -9,5 +9,5 @@ returns c =
     let d = c.before in
     below-told _ _ _ _ _ d.before.before.requires _ d.second-dependency.ensures.0 _ c.next-kind.ensures
 
-pub below-spec : {M : Type 1} → statement M
-below-spec = tie.close (tie.spec (λ c. search rules) (λ c. search rules) (λ c κs. search rules) (λ c κs. search rules) returns)
+pub below_spec : {M : Type 1} → statement M
+below_spec = tie.close (tie.spec (λ c. search rules) (λ c. search rules) (λ c κs. search rules) (λ c κs. search rules) returns)

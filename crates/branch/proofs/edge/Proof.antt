@@ -12,5 +12,5 @@ row-fits-requires c κs = search rules
 returns : tie.Need-returns
 returns c = λ types. c.row-fits.ensures types _ _ c.before.test.ensures
 
-pub edge-spec : {M : Type 1} → statement M
-edge-spec = tie.close (tie.spec test-requires row-fits-requires returns)
+pub edge_spec : {M : Type 1} → statement M
+edge_spec = tie.close (tie.spec test-requires row-fits-requires returns)

@@ -95,8 +95,8 @@ returns-3 c =
       λ types. asked-both e types,
     )
 
-pub fork-spec : {M : Type 1} → statement M
-fork-spec =
+pub fork_spec : {M : Type 1} → statement M
+fork_spec =
     tie.close
     (tie.spec
     index-requires

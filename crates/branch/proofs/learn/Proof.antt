@@ -86,8 +86,8 @@ returns-2 c =
       omega arith,
     )
 
-pub learn-spec : {M : Type 1} → statement M
-learn-spec =
+pub learn_spec : {M : Type 1} → statement M
+learn_spec =
     tie.close
     (tie.spec
     a-requires

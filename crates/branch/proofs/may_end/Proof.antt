@@ -18,5 +18,5 @@ returns-2 c = let e = c.before in end-open _ _ _ _ (ending-word _ _ _ _ e.if1.fa
 returns-3 : tie.Need-returns-3
 returns-3 c = let e = c.before in end-shut _ _ _ _ (ending-word _ _ _ _ e.if1.false e.before.form.ensures) (omega arith)
 
-pub may-end-spec : {M : Type 1} → statement M
-may-end-spec = tie.close (tie.spec form-requires returns returns-2 returns-3)
+pub may_end_spec : {M : Type 1} → statement M
+may_end_spec = tie.close (tie.spec form-requires returns returns-2 returns-3)

@@ -48,8 +48,8 @@ returns-3 c =
     next-is _ _ _ _ _ _ _ _ (kind k).kind.ensures.0 (omega arith) _ k.before.dependency.ensures
     (test-true (k.known-equal.ensures 0 0 (paired-nothing _ refl)) e.if2.false) _ c.with-kind.ensures
 
-pub next-kind-spec : {M : Type 1} → statement M
-next-kind-spec =
+pub next_kind_spec : {M : Type 1} → statement M
+next_kind_spec =
     tie.close
     (tie.spec
     mul-w

@@ -9,5 +9,5 @@ returns c =
     let d = c.before in
     not-below-told _ _ _ _ _ d.before.before.requires _ d.first-dependency.ensures.0 _ c.next-kind.ensures
 
-pub not-below-spec : {M : Type 1} → statement M
-not-below-spec = tie.close (tie.spec (λ c. search rules) (λ c. search rules) (λ c κs. search rules) (λ c κs. search rules) returns)
+pub not_below_spec : {M : Type 1} → statement M
+not_below_spec = tie.close (tie.spec (λ c. search rules) (λ c. search rules) (λ c κs. search rules) (λ c κs. search rules) returns)

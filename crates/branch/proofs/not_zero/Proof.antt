@@ -52,8 +52,8 @@ returns-4 c =
     zero-other s.args.words.now frames constants s.args.v s.args.k (omega arith) _ k.kind.ensures.0 (λ h. omega arith)
     (λ h. omega arith)
 
-pub not-zero-spec : {M : Type 1} → statement M
-not-zero-spec =
+pub not_zero_spec : {M : Type 1} → statement M
+not_zero_spec =
     tie.close
     (tie.spec
     mul-w

@@ -16,5 +16,5 @@ returns c =
     let s = c.before.before.before.before.args in
     blanks-counted (parts_in s.words.now s.ends.now s.marked) _ _ c.blanks.ensures c.before.part.ensures
 
-pub blanks-spec : {M : Type 1} → statement M
-blanks-spec = tie.close (tie.spec part-requires blanks-requires returns)
+pub blanks_spec : {M : Type 1} → statement M
+blanks_spec = tie.close (tie.spec part-requires blanks-requires returns)

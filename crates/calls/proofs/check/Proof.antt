@@ -52,7 +52,7 @@ returns c =
     p.before.part4.ensures
     p.part5.ensures
 
-pub check-spec : {M : Type 1} → statement M
-check-spec =
+pub check_spec : {M : Type 1} → statement M
+check_spec =
     tie.close
     (tie.spec part-requires part-requires-2 part-requires-3 part-requires-4 part-requires-5 check-offered-requires returns)

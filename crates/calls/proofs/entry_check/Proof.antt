@@ -56,8 +56,8 @@ returns c =
     c.before.before.word.ensures
     c.before.registers.ensures
 
-pub entry-check-spec : {M : Type 1} → statement M
-entry-check-spec =
+pub entry_check_spec : {M : Type 1} → statement M
+entry_check_spec =
     tie.close
     (tie.spec
     part-requires

@@ -32,8 +32,8 @@ returns c =
     c.before.before.part3.ensures
     c.before.part4.ensures
 
-pub memory-check-spec : {M : Type 1} → statement M
-memory-check-spec =
+pub memory_check_spec : {M : Type 1} → statement M
+memory_check_spec =
     tie.close
     (tie.spec
     part-requires

@@ -29,5 +29,5 @@ returns c =
     let k = c.before in
     λ P A B. ap (λ (v : CheckAnswer). eqb v.number 0) (k.block.ensures P (rw k.before.places.ensures A) B)
 
-pub block-passes-spec : {M : Type 1} → statement M
-block-passes-spec = tie.close (tie.spec places-requires block-requires returns)
+pub block_passes_spec : {M : Type 1} → statement M
+block_passes_spec = tie.close (tie.spec places-requires block-requires returns)

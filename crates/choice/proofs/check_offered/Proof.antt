@@ -149,8 +149,8 @@ choose-requires c κs =
 returns-5 : tie.Need-returns-5
 returns-5 c = c.choose.ensures
 
-pub check-offered-spec : {M : Type 1} → statement M
-check-offered-spec =
+pub check_offered_spec : {M : Type 1} → statement M
+check_offered_spec =
     tie.close
     (tie.spec
     first-questions-requires

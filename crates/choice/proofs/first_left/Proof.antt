@@ -49,6 +49,6 @@ returns-2 c =
     let l = c.before.loop in
     record { within = omega arith; is = λ h. absurd (omega arith); before = λ i h. l.invariant.1 i (omega arith) }
 
-pub first-left-spec : {M : Type 1} → statement M
-first-left-spec =
+pub first_left_spec : {M : Type 1} → statement M
+first_left_spec =
     tie.close (tie.spec invariant-loop decreases-loop loop-holds element-copy-out-stands stands-requires returns add-i loop-less loop-again returns-2)

@@ -13,5 +13,5 @@ returns-2 c = no_second _ _ (omega arith) (omega arith)
 returns-3 : tie.Need-returns-3
 returns-3 c = by-third _ _ (omega arith) (omega arith)
 
-pub is-choice-spec : {M : Type 1} → statement M
-is-choice-spec = tie.close (tie.spec returns returns-2 returns-3)
+pub is_choice_spec : {M : Type 1} → statement M
+is_choice_spec = tie.close (tie.spec returns returns-2 returns-3)

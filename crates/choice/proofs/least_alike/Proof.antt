@@ -23,5 +23,5 @@ add-result-2 c = let s = c.before.before.before in omega (arith, alike-parts _ s
 returns : tie.Need-returns
 returns c = let s = c.before.before.before in (refl, omega (arith, alike-parts _ s.requires.1 _ s.requires.0))
 
-pub least-alike-spec : {M : Type 1} → statement M
-least-alike-spec = tie.close (tie.spec mul-result mul-result-2 add-result mul-result-3 add-result-2 returns)
+pub least_alike_spec : {M : Type 1} → statement M
+least_alike_spec = tie.close (tie.spec mul-result mul-result-2 add-result mul-result-3 add-result-2 returns)

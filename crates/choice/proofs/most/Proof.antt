@@ -9,5 +9,5 @@ returns c = most-none _ _ c.if1.true
 returns-2 : tie.Need-returns-2
 returns-2 c = most-some _ _ c.if1.false
 
-pub most-spec : {M : Type 1} → statement M
-most-spec = tie.close (tie.spec returns returns-2)
+pub most_spec : {M : Type 1} → statement M
+most_spec = tie.close (tie.spec returns returns-2)

@@ -15,5 +15,5 @@ most-requires-3 c κs = search rules
 returns : tie.Need-returns
 returns c = let b = c.before in rw (b.before.most.ensures, b.most2.ensures, c.most3.ensures)
 
-pub mosts-spec : {M : Type 1} → statement M
-mosts-spec = tie.close (tie.spec most-requires most-requires-2 most-requires-3 returns)
+pub mosts_spec : {M : Type 1} → statement M
+mosts_spec = tie.close (tie.spec most-requires most-requires-2 most-requires-3 returns)

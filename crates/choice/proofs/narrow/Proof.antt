@@ -84,8 +84,8 @@ returns-2 c =
           (rw w.weights.ensures.0 at c.strike.ensures),
     )
 
-pub narrow-spec : {M : Type 1} → statement M
-narrow-spec =
+pub narrow_spec : {M : Type 1} → statement M
+narrow_spec =
     tie.close
     (tie.spec
     sub-target

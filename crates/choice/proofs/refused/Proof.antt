@@ -18,5 +18,5 @@ chosen-requires c κs = rw c.places.ensures (omega arith, omega arith, omega ari
 returns : tie.Need-returns
 returns c = let p = c.before in c.chosen.ensures ∙ choosing-same _ _ _ _ p.before.counting.ensures p.places.ensures
 
-pub refused-spec : {M : Type 1} → statement M
-refused-spec = tie.close (tie.spec counting-requires places-requires chosen-requires returns)
+pub refused_spec : {M : Type 1} → statement M
+refused_spec = tie.close (tie.spec counting-requires places-requires chosen-requires returns)

@@ -161,8 +161,8 @@ returns-2 c =
     search-ends _ P _ (rows (start l).args.blocks.now) (λ j h x. (R.annotated j h x).count) _ l.loop.b _ (l.loop.invariant.0 P R) (omega arith)
     c.first-left.ensures
 
-pub search-spec : {M : Type 1} → statement M
-search-spec =
+pub search_spec : {M : Type 1} → statement M
+search_spec =
     tie.close
     (tie.spec
     invariant-loop

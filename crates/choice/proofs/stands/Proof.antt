@@ -16,5 +16,5 @@ returns-2 : tie.Need-returns-2
 unfolding ◌and◌
 returns-2 c = rw (ne_eqb _ _ c.before.if1.false) c.is-choice.ensures
 
-pub stands-spec : {M : Type 1} → statement M
-stands-spec = tie.close (tie.spec returns is-choice-requires returns-2)
+pub stands_spec : {M : Type 1} → statement M
+stands_spec = tie.close (tie.spec returns is-choice-requires returns-2)

@@ -49,6 +49,6 @@ returns-3 c = λ P B h e. rw (sym (passed_is c.before P B h) ∙ c.if3.true)
 returns-4 : tie.Need-returns-4
 returns-4 c = λ P B h e. rw (sym (passed_is c.before P B h) ∙ c.if3.false)
 
-pub tried-spec : {M : Type 1} → statement M
-tried-spec =
+pub tried_spec : {M : Type 1} → statement M
+tried_spec =
     tie.close (tie.spec least-alike-requires returns is-choice-requires returns-2 block-passes-requires returns-3 returns-4)

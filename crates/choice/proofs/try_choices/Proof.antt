@@ -46,6 +46,6 @@ loop-again c =
 returns : tie.Need-returns invariant-loop decreases-loop
 returns c = let l = c.before.loop in (l.invariant.0, λ P B. record { at = λ i h. (l.invariant.2 P B).at i (omega arith) })
 
-pub try-choices-spec : {M : Type 1} → statement M
-try-choices-spec =
+pub try_choices_spec : {M : Type 1} → statement M
+try_choices_spec =
     tie.close (tie.spec invariant-loop decreases-loop loop-holds tried-requires element-write-passed add-i loop-less loop-again returns)

@@ -19,5 +19,5 @@ returns-3 c = let n = c.before in weight-target _ _ _ _ n.before.if1.false n.if2
 returns-4 : tie.Need-returns-4
 returns-4 c = let n = c.before in weight-none _ _ _ _ n.before.if1.false n.if2.false c.if3.false
 
-pub weight-spec : {M : Type 1} → statement M
-weight-spec = tie.close (tie.spec returns add-if2 returns-2 returns-3 returns-4)
+pub weight_spec : {M : Type 1} → statement M
+weight_spec = tie.close (tie.spec returns add-if2 returns-2 returns-3 returns-4)

@@ -21,5 +21,5 @@ returns c =
     let s = a.before.args in
     rw (a.weight.ensures, b.weight2.ensures, c.weight3.ensures) (refl, weighs s.blanks s.b s.target)
 
-pub weights-spec : {M : Type 1} → statement M
-weights-spec = tie.close (tie.spec weight-requires weight-requires-2 weight-requires-3 returns)
+pub weights_spec : {M : Type 1} → statement M
+weights_spec = tie.close (tie.spec weight-requires weight-requires-2 weight-requires-3 returns)

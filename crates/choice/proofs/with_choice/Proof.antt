@@ -25,5 +25,5 @@ returns c =
     λ P A D.
     c.chosen.ensures ∙ choosing-same _ _ _ _ (j.judge.ensures P (rw p.places.ensures A) D) p.places.ensures
 
-pub with-choice-spec : {M : Type 1} → statement M
-with-choice-spec = tie.close (tie.spec places-requires judge-requires chosen-requires returns)
+pub with_choice_spec : {M : Type 1} → statement M
+with_choice_spec = tie.close (tie.spec places-requires judge-requires chosen-requires returns)

@@ -11,5 +11,5 @@ returns c = sym (pick-false _ _ _ (ap not c.if1.true))
 returns-2 : tie.Need-returns-2
 returns-2 c = sym (pick_true _ _ _ (ap not c.if1.false))
 
-pub said-spec : {M : Type 1} → statement M
-said-spec = tie.close (tie.spec returns returns-2)
+pub said_spec : {M : Type 1} → statement M
+said_spec = tie.close (tie.spec returns returns-2)

@@ -13,5 +13,5 @@ returns-2 c = sym (pick-false _ _ _ c.before.if1.false ∙ pick_true _ _ _ c.if2
 returns-3 : tie.Need-returns-3
 returns-3 c = sym (pick-false _ _ _ c.before.if1.false ∙ pick-false _ _ _ c.if2.false)
 
-pub status-spec : {M : Type 1} → statement M
-status-spec = tie.close (tie.spec returns returns-2 returns-3)
+pub status_spec : {M : Type 1} → statement M
+status_spec = tie.close (tie.spec returns returns-2 returns-3)

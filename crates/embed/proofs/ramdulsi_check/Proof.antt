@@ -17,5 +17,5 @@ returns c = (
   c.counted.ensures.1 ∙ ap place_and_count c.before.before.check.ensures,
 )
 
-pub ramdulsi-check-spec : {M : Type 1} → statement M
-ramdulsi-check-spec = tie.close (tie.spec check-requires counted-requires returns)
+pub ramdulsi_check_spec : {M : Type 1} → statement M
+ramdulsi_check_spec = tie.close (tie.spec check-requires counted-requires returns)

@@ -19,5 +19,5 @@ returns c =
       c.chosen.ensures.2 ∙ ap (λ a. a.choice) e,
     )
 
-pub ramdulsi-check-offered-spec : {M : Type 1} → statement M
-ramdulsi-check-offered-spec = tie.close (tie.spec check-offered-requires chosen-requires returns)
+pub ramdulsi_check_offered_spec : {M : Type 1} → statement M
+ramdulsi_check_offered_spec = tie.close (tie.spec check-offered-requires chosen-requires returns)

@@ -17,5 +17,5 @@ returns c = (
   c.placed.ensures.1 ∙ ap place_of c.before.before.entry-check.ensures,
 )
 
-pub ramdulsi-entry-check-spec : {M : Type 1} → statement M
-ramdulsi-entry-check-spec = tie.close (tie.spec entry-check-requires placed-requires returns)
+pub ramdulsi_entry_check_spec : {M : Type 1} → statement M
+ramdulsi_entry_check_spec = tie.close (tie.spec entry-check-requires placed-requires returns)

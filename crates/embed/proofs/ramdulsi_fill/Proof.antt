@@ -28,5 +28,5 @@ returns c =
       filled-by _ _ _ _ _ e.0 e.1,
     )
 
-pub ramdulsi-fill-spec : {M : Type 1} → statement M
-ramdulsi-fill-spec = tie.close (tie.spec fill-requires chosen-requires same_length returns)
+pub ramdulsi_fill_spec : {M : Type 1} → statement M
+ramdulsi_fill_spec = tie.close (tie.spec fill-requires chosen-requires same_length returns)

@@ -17,5 +17,5 @@ returns c = (
   c.placed.ensures.1 ∙ ap place_of c.before.before.memory-check.ensures,
 )
 
-pub ramdulsi-memory-check-spec : {M : Type 1} → statement M
-ramdulsi-memory-check-spec = tie.close (tie.spec memory-check-requires placed-requires returns)
+pub ramdulsi_memory_check_spec : {M : Type 1} → statement M
+ramdulsi_memory_check_spec = tie.close (tie.spec memory-check-requires placed-requires returns)

@@ -23,5 +23,5 @@ returns c =
       c.before.ended.ensures ∙ ap ended_at e.0,
     )
 
-pub ramdulsi-run-spec : {M : Type 1} → statement M
-ramdulsi-run-spec = tie.close (tie.spec run-requires ended-requires same_length returns)
+pub ramdulsi_run_spec : {M : Type 1} → statement M
+ramdulsi_run_spec = tie.close (tie.spec run-requires ended-requires same_length returns)

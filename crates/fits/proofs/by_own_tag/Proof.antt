@@ -13,8 +13,8 @@ returns-2 c = own-none _ _ c.if2.true (λ h. omega arith)
 returns-3 : tie.Need-returns-3
 returns-3 c = own-tagged _ _ c.if2.false (λ h. omega arith)
 
-pub by-own-tag-spec : {M : Type 1} → statement M
-by-own-tag-spec =
+pub by_own_tag_spec : {M : Type 1} → statement M
+by_own_tag_spec =
     tie.close
     (tie.spec
     returns

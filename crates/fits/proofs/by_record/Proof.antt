@@ -16,8 +16,8 @@ returns-3 c = record-none _ _ c.if3.true (λ h. omega arith) (λ h. omega arith)
 returns-4 : tie.Need-returns-4
 returns-4 c = record-maybe _ _ c.if3.false (λ h. omega arith) (λ h. omega arith)
 
-pub by-record-spec : {M : Type 1} → statement M
-by-record-spec =
+pub by_record_spec : {M : Type 1} → statement M
+by_record_spec =
     tie.close
     (tie.spec
     returns

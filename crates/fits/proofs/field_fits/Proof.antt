@@ -19,8 +19,8 @@ value-fits-requires c κs = search rules
 returns : tie.Need-returns
 returns c = λ types tested equal paired. place_is _ _ _ _ _ _ (c.value-fits.ensures types tested equal paired)
 
-pub field-fits-spec : {M : Type 1} → statement M
-field-fits-spec =
+pub field_fits_spec : {M : Type 1} → statement M
+field_fits_spec =
     tie.close
     (tie.spec
     element-copy-out-value-fits

@@ -60,8 +60,8 @@ returns-4 c =
     ref.before.record-type.ensures.0 (sym (ref.is-ref.ensures types tested equal paired) ∙ no.if1.left) (omega arith)
     (sym (zero.known-zero.ensures types _ tested equal paired) ∙ c.before.if3.false) _ (c.is-maybe.ensures types tested equal paired)
 
-pub fits-pointer-spec : {M : Type 1} → statement M
-fits-pointer-spec =
+pub fits_pointer_spec : {M : Type 1} → statement M
+fits_pointer_spec =
     tie.close
     (tie.spec
     record-type-requires

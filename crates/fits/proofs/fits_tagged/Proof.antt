@@ -57,8 +57,8 @@ returns-3 c =
     (omega arith) (omega arith) (sym (past.before.tag-fits.ensures types tested equal paired) ∙ past.if1.false) zero.if2.false _
     (c.known-zero.ensures types _ tested equal paired)
 
-pub fits-tagged-spec : {M : Type 1} → statement M
-fits-tagged-spec =
+pub fits_tagged_spec : {M : Type 1} → statement M
+fits_tagged_spec =
     tie.close
     (tie.spec
     first-dependency-requires

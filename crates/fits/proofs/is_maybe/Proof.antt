@@ -43,8 +43,8 @@ returns-3 c =
     λ types tested equal paired. maybe_tagged _ _ _ (kind byte.before).kind.ensures.0 _ _ byte.first-dependency.ensures.0
     x.dependency.ensures _ _ (omega arith) _ (c.known-tag.ensures types tested equal paired)
 
-pub is-maybe-spec : {M : Type 1} → statement M
-is-maybe-spec =
+pub is_maybe_spec : {M : Type 1} → statement M
+is_maybe_spec =
     tie.close
     (tie.spec
     mul-w

@@ -34,8 +34,8 @@ returns-2 c =
 returns-3 : tie.Need-returns-3
 returns-3 c = λ types tested equal paired. ref-told _ _ _ _ _ c.enum_told.given.1 (c.before.before.refers-by.ensures _ _ _) _ _ refl
 
-pub is-ref-spec : {M : Type 1} → statement M
-is-ref-spec =
+pub is_ref_spec : {M : Type 1} → statement M
+is_ref_spec =
     tie.close
     (tie.spec
     refers-by-requires

@@ -175,8 +175,8 @@ returns-4 c =
     p.second-dependency.ensures.0 y.named2.ensures q.second-dependency2.ensures.0 _ (c.known-bound2.ensures tested equal paired)
     ∙ sym (first-passed types tags tested equal p.before paired)
 
-pub is-span-spec : {M : Type 1} → statement M
-is-span-spec =
+pub is_span_spec : {M : Type 1} → statement M
+is_span_spec =
     tie.close
     (tie.spec
     mul-own

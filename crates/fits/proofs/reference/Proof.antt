@@ -33,8 +33,8 @@ returns-2 c =
 returns-3 : tie.Need-returns-3
 returns-3 c = λ types. reference-told _ _ _ _ _ c.enum_told.given.1 (c.before.before.refers-by.ensures _ _ _) _ refl
 
-pub reference-spec : {M : Type 1} → statement M
-reference-spec =
+pub reference_spec : {M : Type 1} → statement M
+reference_spec =
     tie.close
     (tie.spec
     refers-by-requires

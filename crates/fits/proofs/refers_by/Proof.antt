@@ -47,8 +47,8 @@ returns-4 c =
     λ constants tested equal. refers-present _ _ _ (kind byte.before).kind.ensures.0 _ _ byte.first-dependency.ensures.0
     c.dependency.ensures (omega arith)
 
-pub refers-by-spec : {M : Type 1} → statement M
-refers-by-spec =
+pub refers_by_spec : {M : Type 1} → statement M
+refers_by_spec =
     tie.close
     (tie.spec
     mul-w

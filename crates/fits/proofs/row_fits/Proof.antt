@@ -54,8 +54,8 @@ returns-2 c =
     let l = c.before.loop in
     λ types tested equal paired. every-end _ _ l.i _ (l.invariant.0 types tested equal paired) (omega arith)
 
-pub row-fits-spec : {M : Type 1} → statement M
-row-fits-spec =
+pub row_fits_spec : {M : Type 1} → statement M
+row_fits_spec =
     tie.close
     (tie.spec
     invariant-loop

@@ -67,8 +67,8 @@ returns-3 c =
     λ types tested equal paired. tag-of-own _ _ _ (kind_2 (past-1 test)).kind.ensures.0 _ _ byte.first-dependency.ensures.0
     x.dependency.ensures _ _ _ (test-true test.before.by-own-tag.ensures test.if2.false) _ (c.known-equal.ensures tested equal paired)
 
-pub tag-fits-spec : {M : Type 1} → statement M
-tag-fits-spec =
+pub tag_fits_spec : {M : Type 1} → statement M
+tag_fits_spec =
     tie.close
     (tie.spec
     mul-own

@@ -54,8 +54,8 @@ is-span-requires c κs = search rules
 returns-5 : tie.Need-returns-5
 returns-5 c = λ types tested equal paired. c.is-span.ensures types _ tested equal paired
 
-pub value-fits-spec : {M : Type 1} → statement M
-value-fits-spec =
+pub value_fits_spec : {M : Type 1} → statement M
+value_fits_spec =
     tie.close
     (tie.spec
     kind-requires

@@ -30,6 +30,6 @@ loop-again c = let l = c.before.before.loop in l.invariant ∙ begins-on l.k _ _
 returns-2 : tie.Need-returns-2 invariant-loop decreases-loop
 returns-2 c = let l = c.before.loop in begins-end l.k l.n _ (omega arith) ∙ sym l.invariant
 
-pub begins-spec : {M : Type 1} → statement M
-begins-spec =
+pub begins_spec : {M : Type 1} → statement M
+begins_spec =
     tie.close (tie.spec invariant-loop decreases-loop loop-holds returns sub-k loop-less loop-again returns-2)

@@ -14,5 +14,5 @@ returns : tie.Need-returns
 unfolding names
 returns c = c.named.ensures
 
-pub form-named-spec : {M : Type 1} → statement M
-form-named-spec = tie.close (tie.spec slice-aggregate-named named-requires returns)
+pub form_named_spec : {M : Type 1} → statement M
+form_named_spec = tie.close (tie.spec slice-aggregate-named named-requires returns)

@@ -12,5 +12,5 @@ returns-2 c = blank-tab _ c.if2.true
 returns-3 : tie.Need-returns-3
 returns-3 c = blank-other _ c.before.if1.false c.if2.false
 
-pub is-blank-spec : {M : Type 1} → statement M
-is-blank-spec = tie.close (tie.spec returns returns-2 returns-3)
+pub is_blank_spec : {M : Type 1} → statement M
+is_blank_spec = tie.close (tie.spec returns returns-2 returns-3)

@@ -16,5 +16,5 @@ returns-2 c = bound-count _ _ _ c.before.if1.false c.if2.true c.before.before.re
 returns-3 : tie.Need-returns-3
 returns-3 c = bound-long _ _ _ c.before.if1.false c.if2.false c.before.before.requires.0
 
-pub largest-spec : {M : Type 1} → statement M
-largest-spec = tie.close (tie.spec returns sub-result returns-2 returns-3)
+pub largest_spec : {M : Type 1} → statement M
+largest_spec = tie.close (tie.spec returns sub-result returns-2 returns-3)

@@ -14,5 +14,5 @@ returns : tie.Need-returns
 unfolding names
 returns c = c.begun.ensures
 
-pub name-begun-spec : {M : Type 1} → statement M
-name-begun-spec = tie.close (tie.spec slice-aggregate-begun begun-requires returns)
+pub name_begun_spec : {M : Type 1} → statement M
+name_begun_spec = tie.close (tie.spec slice-aggregate-begun begun-requires returns)

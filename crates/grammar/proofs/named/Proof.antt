@@ -38,8 +38,8 @@ loop-again c = let l = c.before.before.before.loop in (l.invariant.0 ∙ named-o
 returns-2 : tie.Need-returns-2 invariant-loop decreases-loop
 returns-2 c = let l = c.before.loop in sym (l.invariant.0 ∙ named_end _ l.i _ c.loop-test.false)
 
-pub named-spec : {M : Type 1} → statement M
-named-spec =
+pub named_spec : {M : Type 1} → statement M
+named_spec =
     tie.close
     (tie.spec
     invariant-loop

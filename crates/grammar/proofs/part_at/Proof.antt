@@ -29,7 +29,7 @@ returns-3 : tie.Need-returns-3
 unfolding part_at forms
 returns-3 c = refl
 
-pub part-at-spec : {M : Type 1} → statement M
-part-at-spec =
+pub part_at_spec : {M : Type 1} → statement M
+part_at_spec =
     tie.close
     (tie.spec returns returns-2 mul-row array-copy-out-row mul-result array-read-result returns-3)

@@ -12,5 +12,5 @@ returns-2 c = wanted-count _ _ c.before.if1.false c.if2.true
 returns-3 : tie.Need-returns-3
 returns-3 c = wanted-other _ _ c.before.if1.false c.if2.false
 
-pub wants-spec : {M : Type 1} → statement M
-wants-spec = tie.close (tie.spec returns returns-2 returns-3)
+pub wants_spec : {M : Type 1} → statement M
+wants_spec = tie.close (tie.spec returns returns-2 returns-3)

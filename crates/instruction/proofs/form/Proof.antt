@@ -55,8 +55,8 @@ returns-8 c =
     let t = c.before.targets-exist in
     form-end _ _ _ _ (formed e.before.before.before) (λ l. omega arith) (not-false _ e.if6.false) (test-true t.ensures c.if7.false)
 
-pub form-spec : {M : Type 1} → statement M
-form-spec =
+pub form_spec : {M : Type 1} → statement M
+form_spec =
     tie.close
     (tie.spec
     well-formed-requires

@@ -8,5 +8,5 @@ returns : tie.Need-returns
 unfolding use_rows
 returns c = refl
 
-pub opcode-rows-spec : {M : Type 1} → statement M
-opcode-rows-spec = tie.close (tie.spec returns)
+pub opcode_rows_spec : {M : Type 1} → statement M
+opcode_rows_spec = tie.close (tie.spec returns)

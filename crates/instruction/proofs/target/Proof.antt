@@ -10,5 +10,5 @@ returns c = λ well ends. target-equal _ (omega arith)
 returns-2 : tie.Need-returns-2
 returns-2 c = λ well ends. target-other c.before.args.w well ends (λ o. omega arith)
 
-pub target-spec : {M : Type 1} → statement M
-target-spec = tie.close (tie.spec returns returns-2)
+pub target_spec : {M : Type 1} → statement M
+target_spec = tie.close (tie.spec returns returns-2)

@@ -21,5 +21,5 @@ returns-3 c = equal-target _ _ _ (omega arith) (omega arith)
 returns-4 : tie.Need-returns-4
 returns-4 c = less-target _ _ _ (known _ (search rules)) (omega arith) (omega arith)
 
-pub targets-exist-spec : {M : Type 1} → statement M
-targets-exist-spec = tie.close (tie.spec returns add-if2 returns-2 returns-3 returns-4)
+pub targets_exist_spec : {M : Type 1} → statement M
+targets_exist_spec = tie.close (tie.spec returns add-if2 returns-2 returns-3 returns-4)

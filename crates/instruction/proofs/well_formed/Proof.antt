@@ -35,6 +35,6 @@ index-2-least c = search rules
 returns-3 : tie.Need-returns-3
 returns-3 c = let s = c.before.before.before.before in no-bit _ s.args.rows.now (omega arith) c.before.if2.false
 
-pub well-formed-spec : {M : Type 1} → statement M
-well-formed-spec =
+pub well_formed_spec : {M : Type 1} → statement M
+well_formed_spec =
     tie.close (tie.spec cast-op returns mul-set index-1-set index-2-set returns-2 mul-least index-1-least index-2-least returns-3)

@@ -14,5 +14,5 @@ add-result c = search rules
 returns-2 : tie.Need-returns-2
 returns-2 c = (constant-or-held c.before.args.k _ (λ h. omega arith), omega arith)
 
-pub constant-or-spec : {M : Type 1} → statement M
-constant-or-spec = tie.close (tie.spec returns add-result returns-2)
+pub constant_or_spec : {M : Type 1} → statement M
+constant_or_spec = tie.close (tie.spec returns add-result returns-2)

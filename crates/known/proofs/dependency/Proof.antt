@@ -15,5 +15,5 @@ sibling-requires c κs = search rules
 returns : tie.Need-returns
 returns c = c.sibling.ensures ∙ ap (λ (f : ℕ). sibling_of f c.before.before.args.x) c.before.frame.ensures.0
 
-pub dependency-spec : {M : Type 1} → statement M
-dependency-spec = tie.close (tie.spec frame-requires sibling-requires returns)
+pub dependency_spec : {M : Type 1} → statement M
+dependency_spec = tie.close (tie.spec frame-requires sibling-requires returns)

@@ -60,8 +60,8 @@ returns-2 c =
       omega arith,
     )
 
-pub far-root-spec : {M : Type 1} → statement M
-far-root-spec =
+pub far_root_spec : {M : Type 1} → statement M
+far_root_spec =
     tie.close
     (tie.spec
     invariant-loop

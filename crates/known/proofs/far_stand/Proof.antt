@@ -24,6 +24,6 @@ returns c =
       c.constant-or.ensures.1,
     )
 
-pub far-stand-spec : {M : Type 1} → statement M
-far-stand-spec =
+pub far_stand_spec : {M : Type 1} → statement M
+far_stand_spec =
     tie.close (tie.spec far-root-requires own-constant-requires constant-or-requires returns)

@@ -20,5 +20,5 @@ mul-result c = search rules
 returns : tie.Need-returns
 returns c = (frame_is _ _ _ c.wide.ensures.0, omega arith)
 
-pub frame-spec : {M : Type 1} → statement M
-frame-spec = tie.close (tie.spec cast-wide element-copy-out-wide wide-requires mul-result returns)
+pub frame_spec : {M : Type 1} → statement M
+frame_spec = tie.close (tie.spec cast-wide element-copy-out-wide wide-requires mul-result returns)

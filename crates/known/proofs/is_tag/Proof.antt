@@ -26,5 +26,5 @@ returns-3 c =
     let given = c.before.before.before.args in
     λ types. tag_is types given.tags.now given.beyond given.r given.t (omega arith) (omega arith)
 
-pub is-tag-spec : {M : Type 1} → statement M
-is-tag-spec = tie.close (tie.spec returns returns-2 mul-result shared-slice-read-result returns-3)
+pub is_tag_spec : {M : Type 1} → statement M
+is_tag_spec = tie.close (tie.spec returns returns-2 mul-result shared-slice-read-result returns-3)

@@ -31,8 +31,8 @@ returns-3 c =
     λ tested equal paired. equal-partner _ _ _ _ _ _ _ _ paired _ _ (s.before.stand.ensures tested equal) (s.stand2.ensures tested equal)
     (λ h. omega arith) _ c.partner.ensures
 
-pub joined-spec : {M : Type 1} → statement M
-joined-spec =
+pub joined_spec : {M : Type 1} → statement M
+joined_spec =
     tie.close
     (tie.spec
     leads-to-requires

@@ -35,8 +35,8 @@ joined-requires-2 c κs = search rules
 returns-4 : tie.Need-returns-4
 returns-4 c = search rules
 
-pub known-bound-spec : {M : Type 1} → statement M
-known-bound-spec =
+pub known_bound_spec : {M : Type 1} → statement M
+known_bound_spec =
     tie.close
     (tie.spec
     returns

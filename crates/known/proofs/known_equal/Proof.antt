@@ -14,5 +14,5 @@ joined-requires c κs = search rules
 returns-2 : tie.Need-returns-2
 returns-2 c = search rules
 
-pub known-equal-spec : {M : Type 1} → statement M
-known-equal-spec = tie.close (tie.spec returns joined-requires returns-2)
+pub known_equal_spec : {M : Type 1} → statement M
+known_equal_spec = tie.close (tie.spec returns joined-requires returns-2)

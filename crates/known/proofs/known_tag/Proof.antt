@@ -31,7 +31,7 @@ returns-2 c =
     λ types tested equal paired. passes-partner _ _ _ _ _ _ _ _ paired _ (r.stand.ensures tested equal)
     (sym (no.before.is-tag.ensures types) ∙ no.if1.false) _ p.partner.ensures _ (c.is-tag2.ensures types)
 
-pub known-tag-spec : {M : Type 1} → statement M
-known-tag-spec =
+pub known_tag_spec : {M : Type 1} → statement M
+known_tag_spec =
     tie.close
     (tie.spec stand-requires is-tag-requires returns partner-requires is-tag-requires-2 returns-2)

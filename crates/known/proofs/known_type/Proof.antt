@@ -23,6 +23,6 @@ shared-slice-read-t c = search rules
 returns-3 : tie.Need-returns-3
 returns-3 c = λ types. type-of-tag _ _ _ _ _ _ _ (c.before.before.before.stand.ensures 0 0) (omega arith) (omega arith)
 
-pub known-type-spec : {M : Type 1} → statement M
-known-type-spec =
+pub known_type_spec : {M : Type 1} → statement M
+known_type_spec =
     tie.close (tie.spec stand-requires returns returns-2 mul-t shared-slice-read-t returns-3)

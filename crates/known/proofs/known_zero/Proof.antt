@@ -27,5 +27,5 @@ returns-2 c =
     (passes-partner _ _ _ _ _ _ _ _ paired _ (r.ensures tested equal) (sym (zero_held r.result) ∙ ne_eqb r.result 256 (λ h. omega arith)) _
     c.partner.ensures _ (zero_held c.partner.result))
 
-pub known-zero-spec : {M : Type 1} → statement M
-known-zero-spec = tie.close (tie.spec stand-requires returns partner-requires returns-2)
+pub known_zero_spec : {M : Type 1} → statement M
+known_zero_spec = tie.close (tie.spec stand-requires returns partner-requires returns-2)

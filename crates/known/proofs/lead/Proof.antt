@@ -48,8 +48,8 @@ returns-4 c =
       omega arith,
     )
 
-pub lead-spec : {M : Type 1} → statement M
-lead-spec =
+pub lead_spec : {M : Type 1} → statement M
+lead_spec =
     tie.close
     (tie.spec
     mul-w

@@ -21,5 +21,5 @@ returns-2 c =
     let e = eqb-true _ _ h in
     led-alike _ _ (omega arith) _ (sym e ∙ is constants tested equal) (omega arith)
 
-pub leads-to-spec : {M : Type 1} → statement M
-leads-to-spec = tie.close (tie.spec returns lead-requires returns-2)
+pub leads_to_spec : {M : Type 1} → statement M
+leads_to_spec = tie.close (tie.spec returns lead-requires returns-2)

@@ -49,5 +49,5 @@ loop-again c =
 returns : tie.Need-returns invariant-loop decreases-loop
 returns c = let at = c.before.loop in (λ constants tested equal. least-done _ (7 - at.i) (omega arith) _ _ ∙ at.invariant.0 constants tested equal, omega arith)
 
-pub least-on-circle-spec : {M : Type 1} → statement M
-least-on-circle-spec = tie.close (tie.spec invariant-loop decreases-loop loop-holds lead-requires add-i loop-less loop-again returns)
+pub least_on_circle_spec : {M : Type 1} → statement M
+least_on_circle_spec = tie.close (tie.spec invariant-loop decreases-loop loop-holds lead-requires add-i loop-less loop-again returns)

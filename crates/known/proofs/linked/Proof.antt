@@ -36,8 +36,8 @@ returns-3 c =
           (lead-constant _ _ (omega arith) _ d.ensures.0 (ltb-false _ _ h)),
     )
 
-pub linked-spec : {M : Type 1} → statement M
-linked-spec =
+pub linked_spec : {M : Type 1} → statement M
+linked_spec =
     tie.close
     (tie.spec
     returns

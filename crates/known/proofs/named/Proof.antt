@@ -20,5 +20,5 @@ add-result c = search rules
 returns-2 : tie.Need-returns-2
 returns-2 c = named-constant _ _ (omega arith)
 
-pub named-spec : {M : Type 1} → statement M
-named-spec = tie.close (tie.spec element-copy-out-wide wide-requires returns add-result returns-2)
+pub named_spec : {M : Type 1} → statement M
+named_spec = tie.close (tie.spec element-copy-out-wide wide-requires returns add-result returns-2)

@@ -64,8 +64,8 @@ returns-5 c =
       λ h. root-itself _ _ (omega arith) (lead-constant _ _ (omega arith) _ d.ensures.0 (omega arith)),
     )
 
-pub own-constant-spec : {M : Type 1} → statement M
-own-constant-spec =
+pub own_constant_spec : {M : Type 1} → statement M
+own_constant_spec =
     tie.close
     (tie.spec
     sub-result

@@ -13,5 +13,5 @@ returns-2 c = partner-value _ _ (λ h. omega arith) (omega arith)
 returns-3 : tie.Need-returns-3
 returns-3 c = partner-none _ _ (λ h. omega arith) (λ h. omega arith)
 
-pub partner-spec : {M : Type 1} → statement M
-partner-spec = tie.close (tie.spec returns returns-2 returns-3)
+pub partner_spec : {M : Type 1} → statement M
+partner_spec = tie.close (tie.spec returns returns-2 returns-3)

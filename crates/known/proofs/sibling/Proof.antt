@@ -17,5 +17,5 @@ add-result-2 c = search rules
 returns-2 : tie.Need-returns-2
 returns-2 c = sibling-constant _ _ (omega arith)
 
-pub sibling-spec : {M : Type 1} → statement M
-sibling-spec = tie.close (tie.spec add-result returns add-result-2 returns-2)
+pub sibling_spec : {M : Type 1} → statement M
+sibling_spec = tie.close (tie.spec add-result returns add-result-2 returns-2)

@@ -26,8 +26,8 @@ returns-2 c =
     λ tested equal. rw c.constant-or.ensures.0
     (stand_of _ _ _ _ (unlinked.before.linked.ensures.1 unlinked.if1.false _ _ tested equal) (k.own-constant.ensures _ tested equal).0)
 
-pub stand-spec : {M : Type 1} → statement M
-stand-spec =
+pub stand_spec : {M : Type 1} → statement M
+stand_spec =
     tie.close
     (tie.spec
     linked-requires

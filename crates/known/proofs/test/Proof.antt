@@ -23,6 +23,6 @@ add-result-2 c = search rules
 returns-2 : tie.Need-returns-2
 returns-2 c = let q = c.far-stand in test-pairs _ _ q.result (q.ensures.0 _ _) (omega arith) (omega arith) (omega arith) (omega arith)
 
-pub test-spec : {M : Type 1} → statement M
-test-spec =
+pub test_spec : {M : Type 1} → statement M
+test_spec =
     tie.close (tie.spec returns far-stand-requires mul-result add-result add-result-2 returns-2)

@@ -24,7 +24,7 @@ rows-requires c κs = search rules
 returns-3 : tie.Need-returns-3
 returns-3 c = λ tags. c.rows.ensures tags ∙ allocations-rows _ tags _ _ (omega arith) (omega arith)
 
-pub allocations-spec : {M : Type 1} → statement M
-allocations-spec =
+pub allocations_spec : {M : Type 1} → statement M
+allocations_spec =
     tie.close
     (tie.spec refused-requires returns refused-requires-2 returns-2 rows-requires returns-3)

@@ -23,6 +23,6 @@ add-end c = search rules
 returns-3 : tie.Need-returns-3
 returns-3 c = λ tags. laid_end _ tags _ _ _ _ (omega arith) (omega arith) _ c.head.ensures
 
-pub is-laid-spec : {M : Type 1} → statement M
-is-laid-spec =
+pub is_laid_spec : {M : Type 1} → statement M
+is_laid_spec =
     tie.close (tie.spec returns returns-2 head-requires cast-end add-end returns-3)

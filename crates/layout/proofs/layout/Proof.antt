@@ -57,8 +57,8 @@ allocations-requires c κs = search rules
 returns-4 : tie.Need-returns-4
 returns-4 c = at_last (left-3 c.before) (c.allocations.ensures _)
 
-pub layout-spec : {M : Type 1} → statement M
-layout-spec =
+pub layout_spec : {M : Type 1} → statement M
+layout_spec =
     tie.close
     (tie.spec
     type-lengths-requires

@@ -28,7 +28,7 @@ returns-3 : tie.Need-returns-3
 unfolding memory_length_ask
 returns-3 c = c.passed.ensures ∙ asked-yes _ _ (in_bounds 1 16384 c.before.before.before.args.n (omega arith) (omega arith))
 
-pub memory-length-spec : {M : Type 1} → statement M
-memory-length-spec =
+pub memory_length_spec : {M : Type 1} → statement M
+memory_length_spec =
     tie.close
     (tie.spec refused-requires returns refused-requires-2 returns-2 passed-requires returns-3)

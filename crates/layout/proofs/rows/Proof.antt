@@ -84,8 +84,8 @@ passed-requires c κs = tt
 returns-2 : tie.Need-returns-2 invariant-loop decreases-loop
 returns-2 c = λ tags. c.passed.ensures ∙ allocations-end c.before.before.loop.invariant tags (omega arith)
 
-pub rows-spec : {M : Type 1} → statement M
-rows-spec =
+pub rows_spec : {M : Type 1} → statement M
+rows_spec =
     tie.close
     (tie.spec
     invariant-loop

@@ -90,8 +90,8 @@ loop-again c =
       k.advance.auto.1.1.0 ∙ l.inv.2,
     )
 
-pub run-block-spec : {M : Type 1} → statement M
-run-block-spec =
+pub run_block_spec : {M : Type 1} → statement M
+run_block_spec =
     tie.close
     (tie.spec
     invariant-loop

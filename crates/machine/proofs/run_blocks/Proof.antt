@@ -326,8 +326,8 @@ returns-3 c =
     (run-pauses (routine a) (start a).args.budget l.finished l.b _ _ _ (omega arith) (l.invariant.5 ∙ sym (routine-start (tables a) l.b))
     ∙ sym l.invariant.0)
 
-pub run-blocks-spec : {M : Type 1} → statement M
-run-blocks-spec =
+pub run_blocks_spec : {M : Type 1} → statement M
+run_blocks_spec =
     tie.close
     (tie.spec
     invariant-loop

@@ -17,5 +17,5 @@ shared-slice-read-result c = let s = c.before.before in omega (arith, s.requires
 returns-2 : tie.Need-returns-2
 returns-2 c = let a = c.before.before.args in dependency-name a.names.now a.x (omega arith)
 
-pub dependency-spec : {M : Type 1} → statement M
-dependency-spec = tie.close (tie.spec returns mul-result shared-slice-read-result returns-2)
+pub dependency_spec : {M : Type 1} → statement M
+dependency_spec = tie.close (tie.spec returns mul-result shared-slice-read-result returns-2)

@@ -89,8 +89,8 @@ loop-again c =
 returns-2 : tie.Need-returns-2 invariant-loop decreases-loop
 returns-2 c = λ allocations I. search-ends c.before.loop.invariant (record { allocations = allocations; owned = I }) (omega arith)
 
-pub first-unmet-spec : {M : Type 1} → statement M
-first-unmet-spec =
+pub first_unmet_spec : {M : Type 1} → statement M
+first_unmet_spec =
     tie.close
     (tie.spec
     invariant-loop

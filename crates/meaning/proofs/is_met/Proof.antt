@@ -149,8 +149,8 @@ returns-9 c = λ allocations I.
     let o = c.before.before in
     c.is-run.ensures _ allocations I ∙ meets-run _ _ _ (read-both (both o)) (test-true (o.is-placed.ensures _ allocations) c.before.if8.false)
 
-pub is-met-spec : {M : Type 1} → statement M
-is-met-spec =
+pub is_met_spec : {M : Type 1} → statement M
+is_met_spec =
     tie.close
     (tie.spec
     kind-requires

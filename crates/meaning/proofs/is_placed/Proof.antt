@@ -16,5 +16,5 @@ returns-3 c = λ 𝒯 allocations. rank-from 𝒯 allocations _ _ _ _ (omega ari
 returns-4 : tie.Need-returns-4
 returns-4 c = λ 𝒯 allocations. rank-in 𝒯 allocations _ _ _ _ (omega arith) (omega arith)
 
-pub is-placed-spec : {M : Type 1} → statement M
-is-placed-spec = tie.close (tie.spec returns returns-2 returns-3 returns-4)
+pub is_placed_spec : {M : Type 1} → statement M
+is_placed_spec = tie.close (tie.spec returns returns-2 returns-3 returns-4)

@@ -64,8 +64,8 @@ returns-5 c = λ tags allocations I.
     run-aligned tags I _ (begun (past h)) _ h.head.ensures c.before.if4.false (omega (arith, h.before.before.run-end.ensures))
     _ c.distance.ensures
 
-pub is-run-spec : {M : Type 1} → statement M
-is-run-spec =
+pub is_run_spec : {M : Type 1} → statement M
+is_run_spec =
     tie.close
     (tie.spec
     returns

@@ -21,6 +21,6 @@ starts-requires c κs = search rules
 returns-2 : tie.Need-returns-2
 returns-2 c = λ types allocations I. c.starts.ensures ∙ tag-starts _ _ _ _ I _ _ (omega arith)
 
-pub is-tagged-spec : {M : Type 1} → statement M
-is-tagged-spec =
+pub is_tagged_spec : {M : Type 1} → statement M
+is_tagged_spec =
     tie.close (tie.spec returns mul-starts shared-slice-read-starts starts-requires returns-2)

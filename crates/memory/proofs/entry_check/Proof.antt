@@ -72,8 +72,8 @@ returns-3 c =
     let m = f.before.before in
     at_last (left-2 m) (c.registers-met.ensures _ (layout-owned _ _ _ _ (laid (past-1 m)) 16384 _ refl f.fill.ensures))
 
-pub entry-check-spec : {M : Type 1} → statement M
-entry-check-spec =
+pub entry_check_spec : {M : Type 1} → statement M
+entry_check_spec =
     tie.close
     (tie.spec
     layout-requires

@@ -45,6 +45,6 @@ records-requires c κs =
 returns-2 : tie.Need-returns-2
 returns-2 c = at_last (left-1 c.before.before.before.before) c.records.ensures
 
-pub memory-check-spec : {M : Type 1} → statement M
-memory-check-spec =
+pub memory_check_spec : {M : Type 1} → statement M
+memory_check_spec =
     tie.close (tie.spec layout-requires returns fill-requires records-requires returns-2)

@@ -146,8 +146,8 @@ returns-2 c =
     let a = c.before.before in
     c.passed.ensures ∙ records-end a.loop.invariant (omega (arith, layout-even _ _ _ _ (laid a)))
 
-pub records-spec : {M : Type 1} → statement M
-records-spec =
+pub records_spec : {M : Type 1} → statement M
+records_spec =
     tie.close
     (tie.spec
     invariant-loop

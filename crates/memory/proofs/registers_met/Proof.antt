@@ -28,8 +28,8 @@ returns-2 c = λ allocations I.
     let m = c.before.before in
     c.passed.ensures ∙ registers-pass _ _ _ _ _ (m.first-unmet.ensures allocations I) (omega arith)
 
-pub registers-met-spec : {M : Type 1} → statement M
-registers-met-spec =
+pub registers_met_spec : {M : Type 1} → statement M
+registers_met_spec =
     tie.close
     (tie.spec
     slice-aggregate-first-unmet

@@ -72,8 +72,8 @@ passed-requires c κs = search rules
 returns-5 : tie.Need-returns-5
 returns-5 c = at_last (left-3 c.before.before) (c.passed.ensures ∙ start-yes _ _ (omega arith))
 
-pub routine-spec : {M : Type 1} → statement M
-routine-spec =
+pub routine_spec : {M : Type 1} → statement M
+routine_spec =
     tie.close
     (tie.spec
     code-lengths-requires

@@ -9,5 +9,5 @@ returns c = base-ten _ c.if1.true
 returns-2 : tie.Need-returns-2
 returns-2 c = base-sixteen _ c.if1.false
 
-pub base-spec : {M : Type 1} → statement M
-base-spec = tie.close (tie.spec returns returns-2)
+pub base_spec : {M : Type 1} → statement M
+base_spec = tie.close (tie.spec returns returns-2)

@@ -37,7 +37,7 @@ returns-3 c =
     let t = c.before in
     closed-ends _ _ _ _ _ (sym t.before.is-blank.ensures ∙ not-false _ t.if1.false) (λ z. c.if2.false (omega arith)) (omega arith)
 
-pub closed-spec : {M : Type 1} → statement M
-closed-spec =
+pub closed_spec : {M : Type 1} → statement M
+closed_spec =
     tie.close
     (tie.spec is-blank-requires not-found-requires returns not-found-requires-2 returns-2 add-past sub-count returns-3)

@@ -16,5 +16,5 @@ returns-3 c = to-first _ _ c.before.if2.false c.if3.true
 returns-4 : tie.Need-returns-4
 returns-4 c = to-zero _ _ c.before.if2.false c.if3.false
 
-pub digit-to-spec : {M : Type 1} → statement M
-digit-to-spec = tie.close (tie.spec returns returns-2 returns-3 returns-4)
+pub digit_to_spec : {M : Type 1} → statement M
+digit_to_spec = tie.close (tie.spec returns returns-2 returns-3 returns-4)

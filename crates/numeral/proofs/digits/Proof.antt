@@ -86,8 +86,8 @@ returns-3 c =
     let l = c.before.before.loop in
     c.not-found2.ensures ∙ sym (l.invariant.0 ∙ scan-end _ _ _ l.i l.value _ c.before.loop-test.false)
 
-pub digits-spec : {M : Type 1} → statement M
-digits-spec =
+pub digits_spec : {M : Type 1} → statement M
+digits_spec =
     tie.close
     (tie.spec
     invariant-loop

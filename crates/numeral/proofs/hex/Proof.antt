@@ -68,8 +68,8 @@ returns-5 c =
     let s = (start e).args in
     hex-both s.bytes.now s.at (room e) _ _ _ refl t.if3.false c.before.if4.false c.digits.ensures
 
-pub hex-spec : {M : Type 1} → statement M
-hex-spec =
+pub hex_spec : {M : Type 1} → statement M
+hex_spec =
     tie.close
     (tie.spec
     not-found-requires

@@ -41,8 +41,8 @@ returns-6 c = numeral-small _ (omega arith) c.if6.true
 returns-7 : tie.Need-returns-7
 returns-7 c = numeral-high _ (omega arith)
 
-pub numeral-spec : {M : Type 1} → statement M
-numeral-spec =
+pub numeral_spec : {M : Type 1} → statement M
+numeral_spec =
     tie.close
     (tie.spec
     returns

@@ -25,5 +25,5 @@ sub-result c = small c
 returns-2 : tie.Need-returns-2
 returns-2 c = plus-over _ _ _ (small c)
 
-pub over-spec : {M : Type 1} → statement M
-over-spec = tie.close (tie.spec div-if1 returns mul-result sub-result returns-2)
+pub over_spec : {M : Type 1} → statement M
+over_spec = tie.close (tie.spec div-if1 returns mul-result sub-result returns-2)

@@ -16,5 +16,5 @@ returns c = let d = c.before.before.before in number-hex _ _ _ _ d.digits.ensure
 returns-2 : tie.Need-returns-2
 returns-2 c = number-decimal _ _ _ _ c.before.before.digits.ensures c.if1.false
 
-pub token-spec : {M : Type 1} → statement M
-token-spec = tie.close (tie.spec digits-requires hex-requires returns returns-2)
+pub token_spec : {M : Type 1} → statement M
+token_spec = tie.close (tie.spec digits-requires hex-requires returns returns-2)

@@ -55,8 +55,8 @@ returns c =
       omega (arith, three c.before, c.words.ensures.1),
     )
 
-pub check-answer-spec : {M : Type 1} → statement M
-check-answer-spec =
+pub check_answer_spec : {M : Type 1} → statement M
+check_answer_spec =
     tie.close
     (tie.spec
     cast-number

@@ -24,5 +24,5 @@ add-result c = omega (arith, counted c.before.before)
 returns : tie.Need-returns
 returns c = same_text (sym c.before.before.places.ensures) c.fill.ensures
 
-pub digits-spec : {M : Type 1} → statement M
-digits-spec = tie.close (tie.spec places-requires fill-requires add-result returns)
+pub digits_spec : {M : Type 1} → statement M
+digits_spec = tie.close (tie.spec places-requires fill-requires add-result returns)

@@ -25,5 +25,5 @@ returns c =
       omega (arith, blank.put.ensures.end, c.digits.ensures.end, short blank.before.before),
     )
 
-pub field-spec : {M : Type 1} → statement M
-field-spec = tie.close (tie.spec put-requires digits-requires returns)
+pub field_spec : {M : Type 1} → statement M
+field_spec = tie.close (tie.spec put-requires digits-requires returns)

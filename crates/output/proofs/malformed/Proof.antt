@@ -17,5 +17,5 @@ field-requires c κs = search rules
 returns : tie.Need-returns
 returns c = (after c.before.before.text.ensures c.field.ensures.0, omega arith)
 
-pub malformed-spec : {M : Type 1} → statement M
-malformed-spec = tie.close (tie.spec slice-aggregate-text text-requires field-requires returns)
+pub malformed_spec : {M : Type 1} → statement M
+malformed_spec = tie.close (tie.spec slice-aggregate-text text-requires field-requires returns)

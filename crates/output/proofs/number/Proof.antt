@@ -10,5 +10,5 @@ digits-requires c κs = omega (arith, decimal-length c.before.args.value)
 returns : tie.Need-returns
 returns c = (c.digits.ensures, omega (arith, c.digits.ensures.end, decimal-length c.before.before.args.value))
 
-pub number-spec : {M : Type 1} → statement M
-number-spec = tie.close (tie.spec digits-requires returns)
+pub number_spec : {M : Type 1} → statement M
+number_spec = tie.close (tie.spec digits-requires returns)

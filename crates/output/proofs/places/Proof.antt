@@ -49,7 +49,7 @@ returns-2 c =
     let turn = c.before.loop in
     decimal-is turn.k c.before.before.args.value (omega arith) (omega arith) (omega arith) turn.invariant.3
 
-pub places-spec : {M : Type 1} → statement M
-places-spec =
+pub places_spec : {M : Type 1} → statement M
+places_spec =
     tie.close
     (tie.spec invariant-loop decreases-loop loop-holds returns mul_power add-k loop-less loop-again returns-2)

@@ -81,8 +81,8 @@ returns c =
       omega (arith, registers-room registers, count.field2.ensures.1, c.words2.ensures.1),
     )
 
-pub run-answer-spec : {M : Type 1} → statement M
-run-answer-spec =
+pub run_answer_spec : {M : Type 1} → statement M
+run_answer_spec =
     tie.close
     (tie.spec
     cast-number

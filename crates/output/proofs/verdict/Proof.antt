@@ -23,6 +23,6 @@ returns c =
     let number = first.before.before in
     (after number.number.ensures.0 (after first.word.ensures.0 c.word2.ensures.0), omega arith)
 
-pub verdict-spec : {M : Type 1} → statement M
-verdict-spec =
+pub verdict_spec : {M : Type 1} → statement M
+verdict_spec =
     tie.close (tie.spec cast-number number-requires word-requires word-requires-2 returns)

@@ -25,5 +25,5 @@ returns c =
       omega (arith, blank.put.ensures.end, c.digits.ensures.end, short blank.before.before),
     )
 
-pub word-spec : {M : Type 1} → statement M
-word-spec = tie.close (tie.spec put-requires digits-requires returns)
+pub word_spec : {M : Type 1} → statement M
+word_spec = tie.close (tie.spec put-requires digits-requires returns)

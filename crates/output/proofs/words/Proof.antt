@@ -48,8 +48,8 @@ returns c =
     let end = c.before in
     (all-fields end.before.before.args.list.now end.loop.i (omega arith) end.loop.invariant.2, omega arith)
 
-pub words-spec : {M : Type 1} → statement M
-words-spec =
+pub words_spec : {M : Type 1} → statement M
+words_spec =
     tie.close
     (tie.spec
     invariant-loop

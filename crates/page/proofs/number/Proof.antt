@@ -13,5 +13,5 @@ number-requires c κs = search rules
 returns-2 : tie.Need-returns-2
 returns-2 c = search rules
 
-pub number-spec : {M : Type 1} → statement M
-number-spec = tie.close (tie.spec returns number-requires returns-2)
+pub number_spec : {M : Type 1} → statement M
+number_spec = tie.close (tie.spec returns number-requires returns-2)

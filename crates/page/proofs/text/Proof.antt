@@ -16,5 +16,5 @@ text-requires c κs = search rules
 returns-3 : tie.Need-returns-3
 returns-3 c = search rules
 
-pub text-spec : {M : Type 1} → statement M
-text-spec = tie.close (tie.spec returns returns-2 text-requires returns-3)
+pub text_spec : {M : Type 1} → statement M
+text_spec = tie.close (tie.spec returns returns-2 text-requires returns-3)

@@ -13,5 +13,5 @@ verdict-requires c κs = search rules
 returns-2 : tie.Need-returns-2
 returns-2 c = search rules
 
-pub verdict-spec : {M : Type 1} → statement M
-verdict-spec = tie.close (tie.spec returns verdict-requires returns-2)
+pub verdict_spec : {M : Type 1} → statement M
+verdict_spec = tie.close (tie.spec returns verdict-requires returns-2)

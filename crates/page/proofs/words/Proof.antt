@@ -16,5 +16,5 @@ words-requires c κs = search rules
 returns-3 : tie.Need-returns-3
 returns-3 c = search rules
 
-pub words-spec : {M : Type 1} → statement M
-words-spec = tie.close (tie.spec returns returns-2 words-requires returns-3)
+pub words_spec : {M : Type 1} → statement M
+words_spec = tie.close (tie.spec returns returns-2 words-requires returns-3)

@@ -29,5 +29,5 @@ returns c =
       omega arith,
     )
 
-pub byte-ahead-spec : {M : Type 1} → statement M
-byte-ahead-spec = tie.close (tie.spec shared-slice-read-next next-requires add-after returns)
+pub byte_ahead_spec : {M : Type 1} → statement M
+byte_ahead_spec = tie.close (tie.spec shared-slice-read-next next-requires add-after returns)

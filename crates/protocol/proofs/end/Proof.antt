@@ -13,5 +13,5 @@ settle-requires c κs = search rules
 returns : tie.Need-returns
 returns c = let t = c.before.act in end-made _ t.result _ _ _ _ c.settle.ensures t.ensures
 
-pub end-spec : {M : Type 1} → statement M
-end-spec = tie.close (tie.spec act-requires settle-requires returns)
+pub end_spec : {M : Type 1} → statement M
+end_spec = tie.close (tie.spec act-requires settle-requires returns)

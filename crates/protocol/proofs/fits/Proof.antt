@@ -22,5 +22,5 @@ largest-requires c κs = (sym c.before.wants.ensures ∙ not-false _ c.if1.false
 returns-2 : tie.Need-returns-2
 returns-2 c = let p = c.before.before.before in fits-most p.before.args.l _ _ p.part_at.ensures c.largest.ensures _
 
-pub fits-spec : {M : Type 1} → statement M
-fits-spec = tie.close (tie.spec part-at-requires wants-requires returns largest-requires returns-2)
+pub fits_spec : {M : Type 1} → statement M
+fits_spec = tie.close (tie.spec part-at-requires wants-requires returns largest-requires returns-2)

@@ -12,5 +12,5 @@ wrapping-add-u64-requires c κs = search rules
 returns : tie.Need-returns
 returns c = (rw c.wrapping-add-u64.ensures, refl)
 
-pub gone-spec : {M : Type 1} → statement M
-gone-spec = tie.close (tie.spec sub-passed wrapping-add-u64-requires returns)
+pub gone_spec : {M : Type 1} → statement M
+gone_spec = tie.close (tie.spec sub-passed wrapping-add-u64-requires returns)

@@ -9,5 +9,5 @@ returns c = words-not _ c.if1.true
 returns-2 : tie.Need-returns-2
 returns-2 c = words-gap _ c.before.if1.false
 
-pub in-words-spec : {M : Type 1} → statement M
-in-words-spec = tie.close (tie.spec returns returns-2)
+pub in_words_spec : {M : Type 1} → statement M
+in_words_spec = tie.close (tie.spec returns returns-2)

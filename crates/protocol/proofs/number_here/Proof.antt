@@ -32,8 +32,8 @@ returns-4 c =
     let t = f.before.before.before in
     record { gap = t.before.if1.false; read = t.token.ensures; room = ltb-true _ _ (sym f.fits2.ensures ∙ not-false _ c.if3.false) }
 
-pub number-here-spec : {M : Type 1} → statement M
-number-here-spec =
+pub number_here_spec : {M : Type 1} → statement M
+number_here_spec =
     tie.close
     (tie.spec
     not-found-requires

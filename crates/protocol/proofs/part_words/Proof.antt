@@ -83,8 +83,8 @@ returns-3 c =
     let a = c.before.before in
     λ e n. reached-goes _ _ _ _ _ _ _ _ a.loop.invariant _ _ e n (start a).requires.0 (omega (arith, stands (start a))) c.gone3.ensures
 
-pub part-words-spec : {M : Type 1} → statement M
-part-words-spec =
+pub part_words_spec : {M : Type 1} → statement M
+part_words_spec =
     tie.close
     (tie.spec
     invariant-loop

@@ -30,6 +30,6 @@ loop-again c =
 returns : tie.Need-returns invariant-loop decreases-loop
 returns c = let l = c.before.loop in (sym (l.invariant.same ∙ reads-past _ _ l.i c.loop-test.false), l.invariant.fine)
 
-pub piece-spec : {M : Type 1} → statement M
-piece-spec =
+pub piece_spec : {M : Type 1} → statement M
+piece_spec =
     tie.close (tie.spec invariant-loop decreases-loop loop-holds turn-requires loop-less loop-again returns)

@@ -17,5 +17,5 @@ returns c =
     let (fine, over, less) = o.requires in
     (λ w e n. rest_goes s.bytes.now w e n s.l s.at _ fine over (omega arith) c.wrapping-add-u64.ensures, less)
 
-pub rest-spec : {M : Type 1} → statement M
-rest-spec = tie.close (tie.spec sub-skipped wrapping-add-u64-requires returns)
+pub rest_spec : {M : Type 1} → statement M
+rest_spec = tie.close (tie.spec sub-skipped wrapping-add-u64-requires returns)

@@ -28,6 +28,6 @@ returns-2 c = let w = c.before.before in settled-short _ _ c.no.ensures w.before
 returns-3 : tie.Need-returns-3
 returns-3 c = let w = c.before in settled-whole _ w.before.before.if1.false (sym c.if2.false ∙ asked w)
 
-pub settle-spec : {M : Type 1} → statement M
-settle-spec =
+pub settle_spec : {M : Type 1} → statement M
+settle_spec =
     tie.close (tie.spec returns part-at-requires wants-requires no-requires returns-2 returns-3)

@@ -70,8 +70,8 @@ returns-3 c =
       omega arith,
     )
 
-pub some-spec : {M : Type 1} → statement M
-some-spec =
+pub some_spec : {M : Type 1} → statement M
+some_spec =
     tie.close
     (tie.spec
     rest-requires

@@ -24,8 +24,8 @@ returns c =
     ended-made s.l t.take.result s.words.now s.ends.now s.longs.now _ _ _ s.value s.count _ _ (omega arith)
     a.wrapping-add-u64.ensures c.wrapping-add-u642.ensures t.take.ensures
 
-pub take-ahead-spec : {M : Type 1} → statement M
-take-ahead-spec =
+pub take_ahead_spec : {M : Type 1} → statement M
+take_ahead_spec =
     tie.close
     (tie.spec
     sub-wrapping-add-u64

@@ -19,5 +19,5 @@ part-words-requires c κs =
 returns-2 : tie.Need-returns-2
 returns-2 c = c.part-words.ensures
 
-pub words-ahead-spec : {M : Type 1} → statement M
-words-ahead-spec = tie.close (tie.spec in-words-requires returns part-words-requires returns-2)
+pub words_ahead_spec : {M : Type 1} → statement M
+words_ahead_spec = tie.close (tie.spec in-words-requires returns part-words-requires returns-2)

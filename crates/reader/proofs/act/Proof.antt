@@ -53,8 +53,8 @@ returns-5 c =
     c.blank-read.ensures
     ∙ act-blank _ _ _ _ _ e.before.before.if1.false e.before.if2.false (omega arith) (sym b.is-blank.ensures ∙ not-false _ f.if4.false)
 
-pub act-spec : {M : Type 1} → statement M
-act-spec =
+pub act_spec : {M : Type 1} → statement M
+act_spec =
     tie.close
     (tie.spec
     first-read-requires

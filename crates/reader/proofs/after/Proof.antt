@@ -20,5 +20,5 @@ returns : tie.Need-returns
 unfolding after
 returns c = c.placed.ensures ∙ rw (c.before.given.ensures, c.before.before.part_at.ensures)
 
-pub after-spec : {M : Type 1} → statement M
-after-spec = tie.close (tie.spec add-part part-at-requires given-requires placed-requires returns)
+pub after_spec : {M : Type 1} → statement M
+after_spec = tie.close (tie.spec add-part part-at-requires given-requires placed-requires returns)

@@ -32,5 +32,5 @@ take-requires c κs =
 returns-3 : tie.Need-returns-3
 returns-3 c = let e = c.before.before.before.before in c.take.ensures ∙ blank-taken _ _ _ _ e.before.if1.false e.if2.false
 
-pub blank-read-spec : {M : Type 1} → statement M
-blank-read-spec = tie.close (tie.spec returns no-requires returns-2 take-requires returns-3)
+pub blank_read_spec : {M : Type 1} → statement M
+blank_read_spec = tie.close (tie.spec returns no-requires returns-2 take-requires returns-3)

@@ -98,8 +98,8 @@ returns-4 c =
     digit-on (line n) (byte n) _ _ n.before.base.ensures n.numeral.ensures _ c.before.digit-to.ensures (omega arith)
     (below (line n) _ _ (kind o).part_at.ensures o.before.largest.ensures _ (small e))
 
-pub digit-read-spec : {M : Type 1} → statement M
-digit-read-spec =
+pub digit_read_spec : {M : Type 1} → statement M
+digit_read_spec =
     tie.close
     (tie.spec
     base-requires

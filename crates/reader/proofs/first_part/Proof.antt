@@ -12,5 +12,5 @@ given-requires c κs = search rules
 returns : tie.Need-returns
 returns c = rw (c.given.ensures, c.before.part_at.ensures)
 
-pub first-part-spec : {M : Type 1} → statement M
-first-part-spec = tie.close (tie.spec part-at-requires given-requires returns)
+pub first_part_spec : {M : Type 1} → statement M
+first_part_spec = tie.close (tie.spec part-at-requires given-requires returns)

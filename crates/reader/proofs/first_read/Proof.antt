@@ -25,6 +25,6 @@ returns-3 c =
     let s = e.before.before.args in
     first-name s.l s.byte _ c.name-read.ensures (sym e.before.is-blank.ensures ∙ e.if1.false) c.before.if2.false
 
-pub first-read-spec : {M : Type 1} → statement M
-first-read-spec =
+pub first_read_spec : {M : Type 1} → statement M
+first_read_spec =
     tie.close (tie.spec is-blank-requires returns returns-2 name-read-requires returns-3)

@@ -77,8 +77,8 @@ returns-5 c =
     let s = t.before.before.args in
     name-on s.l s.byte (goes_on t) (omega arith) (sym (not-false _ c.if4.false) ∙ b.name-begun.ensures)
 
-pub name-read-spec : {M : Type 1} → statement M
-name-read-spec =
+pub name_read_spec : {M : Type 1} → statement M
+name_read_spec =
     tie.close
     (tie.spec
     is-blank-requires

@@ -16,5 +16,5 @@ returns c =
     let s = t.before.before.before.before.args in
     step-made s.l s.words.now s.ends.now s.longs.now s.byte t.act.result _ _ _ _ c.wrapping-add-u64.ensures t.act.ensures
 
-pub next-spec : {M : Type 1} → statement M
-next-spec = tie.close (tie.spec act-requires wrapping-add-u64-requires returns)
+pub next_spec : {M : Type 1} → statement M
+next_spec = tie.close (tie.spec act-requires wrapping-add-u64-requires returns)

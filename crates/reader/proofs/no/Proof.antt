@@ -8,5 +8,5 @@ returns : tie.Need-returns
 unfolding malformed
 returns c = search rules
 
-pub no-spec : {M : Type 1} → statement M
-no-spec = tie.close (tie.spec returns)
+pub no_spec : {M : Type 1} → statement M
+no_spec = tie.close (tie.spec returns)

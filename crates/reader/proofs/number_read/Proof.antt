@@ -19,6 +19,6 @@ returns-2 c = number-zero _ _ _ c.digit-read2.ensures c.before.before.if1.false 
 returns-3 : tie.Need-returns-3
 returns-3 c = let s = c.before.before.before.args in number-prefix s.l s.byte c.before.if1.false c.if2.false
 
-pub number-read-spec : {M : Type 1} → statement M
-number-read-spec =
+pub number_read_spec : {M : Type 1} → statement M
+number_read_spec =
     tie.close (tie.spec digit-read-requires returns digit-read-requires-2 returns-2 returns-3)

@@ -18,5 +18,5 @@ placed-requires c κs = search rules
 returns-2 : tie.Need-returns-2
 returns-2 c = λ w n. let s = c.before.before.args in count-some s.l w s.ends.now n _ c.placed.ensures c.before.if1.false
 
-pub take-count-spec : {M : Type 1} → statement M
-take-count-spec = tie.close (tie.spec finish-requires returns placed-requires returns-2)
+pub take_count_spec : {M : Type 1} → statement M
+take_count_spec = tie.close (tie.spec finish-requires returns placed-requires returns-2)

@@ -25,7 +25,7 @@ after-requires c κs = search rules
 returns-2 : tie.Need-returns-2
 returns-2 c = λ w e. let s = c.before.before.args in long-on s.l w e s.longs.now _ c.after.ensures (omega arith)
 
-pub take-long-spec : {M : Type 1} → statement M
-take-long-spec =
+pub take_long_spec : {M : Type 1} → statement M
+take_long_spec =
     tie.close
     (tie.spec no-requires returns mul-longs element-write-longs add-after after-requires returns-2)

@@ -48,8 +48,8 @@ returns-3 c =
     λ n. let s = (start c.before.before.before).args in
     word_on s.l s.words.now s.ends.now n _ c.placed.ensures (omega arith) (omega arith)
 
-pub take-word-spec : {M : Type 1} → statement M
-take-word-spec =
+pub take_word_spec : {M : Type 1} → statement M
+take_word_spec =
     tie.close
     (tie.spec
     no-requires

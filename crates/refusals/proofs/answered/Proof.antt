@@ -43,8 +43,8 @@ loop-again c = c.with-answer.ensures
 returns : tie.Need-returns invariant-loop decreases-loop
 returns c = search rules
 
-pub answered-spec : {M : Type 1} → statement M
-answered-spec =
+pub answered_spec : {M : Type 1} → statement M
+answered_spec =
     tie.close
     (tie.spec
     invariant-loop

@@ -36,8 +36,8 @@ loop-again c = (omega arith, omega arith)
 returns-2 : tie.Need-returns-2 invariant-loop decreases-loop
 returns-2 c = (omega arith, omega arith)
 
-pub past-line-spec : {M : Type 1} → statement M
-past-line-spec =
+pub past_line_spec : {M : Type 1} → statement M
+past_line_spec =
     tie.close
     (tie.spec
     invariant-loop

@@ -21,6 +21,6 @@ returns c =
     let f = c.before.before.before.before in
     ready-written f.fill.result.place _ f.fill.ensures.1.fine c.written.ensures
 
-pub with-answer-spec : {M : Type 1} → statement M
-with-answer-spec =
+pub with_answer_spec : {M : Type 1} → statement M
+with_answer_spec =
     tie.close (tie.spec write-all-requires fill-requires write-requires written-requires returns)

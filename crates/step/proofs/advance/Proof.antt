@@ -32,8 +32,8 @@ returns c =
     let effect = c.before.before.before.before.before.before.effect_of in
     λ P b j f n d. taken-over b j f n _ _ _ _ _ carried.ensures.1 (carried.ensures.0 b j f n ∙ effect.ensures.0 P b j f n _ d)
 
-pub advance-spec : {M : Type 1} → statement M
-advance-spec =
+pub advance_spec : {M : Type 1} → statement M
+advance_spec =
     tie.close
     (tie.spec
     effect-of-requires

@@ -24,5 +24,5 @@ returns c =
       set_own a.registers _ a.e.a r.result.v c.with.ensures,
     )
 
-pub carry-out-spec : {M : Type 1} → statement M
-carry-out-spec = tie.close (tie.spec reached-requires with-requires same_length returns)
+pub carry_out_spec : {M : Type 1} → statement M
+carry_out_spec = tie.close (tie.spec reached-requires with-requires same_length returns)

@@ -160,8 +160,8 @@ returns-5 c =
       omega arith,
     )
 
-pub effect-of-spec : {M : Type 1} → statement M
-effect-of-spec =
+pub effect_of_spec : {M : Type 1} → statement M
+effect_of_spec =
     tie.close
     (tie.spec
     a-requires

@@ -16,5 +16,5 @@ moved-requires c κs = tt
 returns : tie.Need-returns
 returns c = c.moved.ensures ∙ ap (moved _) (to_z-of_z {w = w32} (record { sfits = c.before.signed.type-inv }) ∙ c.before.signed.ensures)
 
-pub moved-by-spec : {M : Type 1} → statement M
-moved-by-spec = tie.close (tie.spec signed-requires moved-requires returns)
+pub moved_by_spec : {M : Type 1} → statement M
+moved_by_spec = tie.close (tie.spec signed-requires moved-requires returns)

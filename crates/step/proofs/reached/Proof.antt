@@ -35,8 +35,8 @@ returns-4 c = λ b j f n l. write_done b j f n l _ _ c.before.if3.true (omega ar
 returns-5 : tie.Need-returns-5
 returns-5 c = λ b j f n l. not-reached b j f n l _ _ c.before.before.if1.false c.if3.false
 
-pub reached-spec : {M : Type 1} → statement M
-reached-spec =
+pub reached_spec : {M : Type 1} → statement M
+reached_spec =
     tie.close
     (tie.spec
     returns

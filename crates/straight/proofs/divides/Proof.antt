@@ -26,5 +26,5 @@ returns-5 c =
     let s = c.before.before.before.before in
     divides-other s.args.n s.args.c (λ h. omega arith) (λ h. omega arith) (λ h. omega arith) (λ h. omega arith)
 
-pub divides-spec : {M : Type 1} → statement M
-divides-spec = tie.close (tie.spec returns returns-2 returns-3 returns-4 returns-5)
+pub divides_spec : {M : Type 1} → statement M
+divides_spec = tie.close (tie.spec returns returns-2 returns-3 returns-4 returns-5)

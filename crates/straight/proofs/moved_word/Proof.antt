@@ -73,8 +73,8 @@ returns-4 c =
     ∙ moved-run _ _ _ _ _ _ _ (omega arith) (kinded s).kind.ensures.0 (typed s).record-type.ensures.0 s.size.ensures.0
     (sym (walked d).walks.ensures ∙ d.before.if2.false) (test-true d.divides.ensures c.before.if3.false)
 
-pub moved-word-spec : {M : Type 1} → statement M
-moved-word-spec =
+pub moved_word_spec : {M : Type 1} → statement M
+moved_word_spec =
     tie.close
     (tie.spec
     kind-requires

@@ -51,5 +51,5 @@ returns-2 c =
       count = r.count ∙ ap (λ (k : ℕ). (start (passed c.before)).args.i.s.asked + k) (inside-asked _ P b _ _ (word-inside (passed c.before)));
     }
 
-pub read-inside-spec : {M : Type 1} → statement M
-read-inside-spec = tie.close (tie.spec form-requires refused-requires returns step-requires returns-2)
+pub read_inside_spec : {M : Type 1} → statement M
+read_inside_spec = tie.close (tie.spec form-requires refused-requires returns step-requires returns-2)

@@ -10,5 +10,5 @@ returns c = let s = c.before in walk-not s.args.kind s.args.size s.args.c (λ h.
 returns-2 : tie.Need-returns-2
 returns-2 c = let s = c.before in walk_is s.args.kind s.args.size s.args.c (omega arith) s.requires
 
-pub walks-spec : {M : Type 1} → statement M
-walks-spec = tie.close (tie.spec returns returns-2)
+pub walks_spec : {M : Type 1} → statement M
+walks_spec = tie.close (tie.spec returns returns-2)

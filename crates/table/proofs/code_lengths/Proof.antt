@@ -10,59 +10,59 @@ use Rattle.table.proofs.code_lengths.Statement.{statement}
 use Rattle.table.proofs.code_lengths.Tie as tie
 
 -- past the test of the block table: it has whole rows, and the code is next
-whole : (c : tie.Else1) → whole_rows 256 c.before.before.args.blocks ≡ true
-whole c = test-true c.before.whole-rows.ensures c.if1.false
+whole : (c : tie.Else-not-whole_rows) → whole_rows 256 c.before.before.args.blocks ≡ true
+whole c = test-true c.before.whole_rows.ensures c.if-not-whole_rows.false-raw
 
-abbrev code : tie.Else1 → ℕ
+abbrev code : tie.Else-not-whole_rows → ℕ
 code c = c.before.before.args.code
 
 -- ---- the needs
 
-whole-rows-requires : tie.Need-whole-rows-requires
-whole-rows-requires c κs = search rules
+whole_rows-requires : tie.Need-whole_rows-requires
+whole_rows-requires c κs = search rules
 
 refused-requires : tie.Need-refused-requires
 refused-requires c κs = search rules
 
-returns : tie.Need-returns
+returns-then-not-whole_rows : tie.Need-returns-then-not-whole_rows
 unfolding code_lengths_ask
-returns c = c.refused.ensures ∙ ask-no _ _ _ (test-false c.before.before.whole-rows.ensures c.before.if1.true)
+returns-then-not-whole_rows c = c.refused.ensures ∙ ask-no _ _ _ (test-false c.before.before.whole_rows.ensures c.before.if-not-whole_rows.true-raw)
 
-refused-requires-2 : tie.Need-refused-requires-2
-refused-requires-2 c κs = search rules
+refused-requires-then-code-lt1 : tie.Need-refused-requires-then-code-lt1
+refused-requires-then-code-lt1 c κs = search rules
 
-returns-2 : tie.Need-returns-2
+returns-then-code-lt1 : tie.Need-returns-then-code-lt1
 unfolding code_lengths_ask
-returns-2 c = let e = c.before.before in c.refused2.ensures ∙ ask-yes _ _ _ (whole e) (ask-no _ _ _ (too-low 1 8192 (code e) (omega arith)))
+returns-then-code-lt1 c = let e = c.before.before in c.refused-then-code-lt1.ensures ∙ ask-yes _ _ _ (whole e) (ask-no _ _ _ (too-low 1 8192 (code e) (omega arith)))
 
-refused-requires-3 : tie.Need-refused-requires-3
-refused-requires-3 c κs = search rules
+refused-requires-then-code-gt-CODE : tie.Need-refused-requires-then-code-gt-CODE
+refused-requires-then-code-gt-CODE c κs = search rules
 
-returns-3 : tie.Need-returns-3
+returns-then-code-gt-CODE : tie.Need-returns-then-code-gt-CODE
 unfolding code_lengths_ask
-returns-3 c =
+returns-then-code-gt-CODE c =
     let e = c.before.before.before in
-    c.refused3.ensures ∙ ask-yes _ _ _ (whole e) (ask-no _ _ _ (too-high 1 8192 (code e) (omega arith) (omega arith)))
+    c.refused-then-code-gt-CODE.ensures ∙ ask-yes _ _ _ (whole e) (ask-no _ _ _ (too-high 1 8192 (code e) (omega arith) (omega arith)))
 
 passed-requires : tie.Need-passed-requires
 passed-requires c κs = search rules
 
-returns-4 : tie.Need-returns-4
+returns : tie.Need-returns
 unfolding code_lengths_ask
-returns-4 c =
+returns c =
     let e = c.before.before.before in
     c.passed.ensures ∙ ask-yes _ _ _ (whole e) (asked-yes _ _ (in_bounds 1 8192 (code e) (omega arith) (omega arith)))
 
-pub code-lengths-spec : {M : Type 1} → statement M
-code-lengths-spec =
+pub code_lengths_spec : {M : Type 1} → statement M
+code_lengths_spec =
     tie.close
     (tie.spec
-    whole-rows-requires
+    whole_rows-requires
     refused-requires
-    returns
-    refused-requires-2
-    returns-2
-    refused-requires-3
-    returns-3
+    returns-then-not-whole_rows
+    refused-requires-then-code-lt1
+    returns-then-code-lt1
+    refused-requires-then-code-gt-CODE
+    returns-then-code-gt-CODE
     passed-requires
-    returns-4)
+    returns)

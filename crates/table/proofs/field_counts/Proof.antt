@@ -9,72 +9,72 @@ use Rattle.table.proofs.Answers.{count_yes, count_none, count-many}
 use Rattle.table.proofs.field_counts.Statement.{statement}
 use Rattle.table.proofs.field_counts.Tie as tie
 
-abbrev invariant-loop : tie.invariant-loop
-invariant-loop types count t₀ t =
+abbrev invariant-loop-t : tie.invariant-loop-t
+invariant-loop-t types count t₀ t =
     RowsLeft (λ tags. first_no (rows types) 0 (count_ask (tables_of types tags))) (λ tags. count_ask (tables_of types tags)) (rows types) t
 
-abbrev decreases-loop : tie.decreases-loop
-decreases-loop types count t₀ t = rows types - t
+abbrev decreases-loop-t : tie.decreases-loop-t
+decreases-loop-t types count t₀ t = rows types - t
 
 -- the loop where a row's count is read
-abbrev round : tie.After-head invariant-loop decreases-loop → tie.At-loop invariant-loop decreases-loop
+abbrev round : tie.After-head-n invariant-loop-t decreases-loop-t → tie.At-loop-t invariant-loop-t decreases-loop-t
 round c = c.before.before
 
 -- ---- the needs
 
-loop-holds : tie.Need-loop-init invariant-loop decreases-loop
-loop-holds c = rows-begin (λ tags. refl)
+loop-t-init : tie.Need-loop-t-init invariant-loop-t decreases-loop-t
+loop-t-init c = rows-begin (λ tags. refl)
 
-head-requires : tie.Need-head-requires invariant-loop decreases-loop
-head-requires c κs = omega arith
+head-n-requires : tie.Need-head-n-requires invariant-loop-t decreases-loop-t
+head-n-requires c κs = omega arith
 
-refused-requires : tie.Need-refused-requires invariant-loop decreases-loop
+refused-requires : tie.Need-refused-requires invariant-loop-t decreases-loop-t
 refused-requires c κs = omega arith
 
-returns : tie.Need-returns invariant-loop decreases-loop
-returns c = λ tags.
+returns-then-n-lt1 : tie.Need-returns-then-n-lt1 invariant-loop-t decreases-loop-t
+returns-then-n-lt1 c = λ tags.
     let h = c.before.before in
-    c.refused.ensures ∙ row-no (round h).loop.invariant tags (omega arith) (count_none _ tags _ _ h.head.ensures (omega arith))
+    c.refused.ensures ∙ row-no (round h).loop-t.invariant tags (omega arith) (count_none _ tags _ _ h.head-n.ensures (omega arith))
 
-refused-requires-2 : tie.Need-refused-requires-2 invariant-loop decreases-loop
-refused-requires-2 c κs = omega arith
+refused-requires-then-n-gt-FIELDS : tie.Need-refused-requires-then-n-gt-FIELDS invariant-loop-t decreases-loop-t
+refused-requires-then-n-gt-FIELDS c κs = omega arith
 
-returns-2 : tie.Need-returns-2 invariant-loop decreases-loop
-returns-2 c = λ tags.
+returns-then-n-gt-FIELDS : tie.Need-returns-then-n-gt-FIELDS invariant-loop-t decreases-loop-t
+returns-then-n-gt-FIELDS c = λ tags.
     let h = c.before.before.before in
-    c.refused2.ensures ∙ row-no (round h).loop.invariant tags (omega arith) (count-many _ tags _ _ h.head.ensures (omega arith) (omega arith))
+    c.refused-then-n-gt-FIELDS.ensures ∙ row-no (round h).loop-t.invariant tags (omega arith) (count-many _ tags _ _ h.head-n.ensures (omega arith) (omega arith))
 
-add-t : tie.Need-overflow-add-t invariant-loop decreases-loop
-add-t c = omega arith
+overflow_add-t : tie.Need-overflow_add-t invariant-loop-t decreases-loop-t
+overflow_add-t c = omega arith
 
-loop-less : tie.Need-loop-smaller invariant-loop decreases-loop
-loop-less c = omega arith
+loop-t-smaller : tie.Need-loop-t-smaller invariant-loop-t decreases-loop-t
+loop-t-smaller c = omega arith
 
-loop-again : tie.Need-loop-preserved invariant-loop decreases-loop
-loop-again c =
+loop-t-preserved : tie.Need-loop-t-preserved invariant-loop-t decreases-loop-t
+loop-t-preserved c =
     let h = c.before.before in
-    row-yes (round h).loop.invariant (omega arith) (λ tags. count_yes _ tags _ _ h.head.ensures (omega arith) (omega arith))
+    row-yes (round h).loop-t.invariant (omega arith) (λ tags. count_yes _ tags _ _ h.head-n.ensures (omega arith) (omega arith))
 
-passed-requires : tie.Need-passed-requires invariant-loop decreases-loop
+passed-requires : tie.Need-passed-requires invariant-loop-t decreases-loop-t
 passed-requires c κs = tt
 
-returns-3 : tie.Need-returns-3 invariant-loop decreases-loop
-returns-3 c = λ tags. c.passed.ensures ∙ rows_end c.before.before.loop.invariant tags (omega arith)
+returns : tie.Need-returns invariant-loop-t decreases-loop-t
+returns c = λ tags. c.passed.ensures ∙ rows_end c.before.before.loop-t.invariant tags (omega arith)
 
-pub field-counts-spec : {M : Type 1} → statement M
-field-counts-spec =
+pub field_counts_spec : {M : Type 1} → statement M
+field_counts_spec =
     tie.close
     (tie.spec
-    invariant-loop
-    decreases-loop
-    loop-holds
-    head-requires
+    invariant-loop-t
+    decreases-loop-t
+    loop-t-init
+    head-n-requires
     refused-requires
-    returns
-    refused-requires-2
-    returns-2
-    add-t
-    loop-less
-    loop-again
+    returns-then-n-lt1
+    refused-requires-then-n-gt-FIELDS
+    returns-then-n-gt-FIELDS
+    overflow_add-t
+    loop-t-smaller
+    loop-t-preserved
     passed-requires
-    returns-3)
+    returns)

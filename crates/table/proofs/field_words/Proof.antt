@@ -10,77 +10,77 @@ use Rattle.table.proofs.Answers.{fields-yes, fields-no}
 use Rattle.table.proofs.field_words.Statement.{statement}
 use Rattle.table.proofs.field_words.Tie as tie
 
-abbrev invariant-loop : tie.invariant-loop
-invariant-loop types count t₀ t =
+abbrev invariant-loop-t : tie.invariant-loop-t
+invariant-loop-t types count t₀ t =
     RowsLeft (λ tags. first_no (rows types) 0 (fields_ask (tables_of types tags))) (λ tags. fields_ask (tables_of types tags)) (rows types) t
 
-abbrev decreases-loop : tie.decreases-loop
-decreases-loop types count t₀ t = rows types - t
+abbrev decreases-loop-t : tie.decreases-loop-t
+decreases-loop-t types count t₀ t = rows types - t
 
 -- the loop where a row's words are judged
-abbrev round : tie.After-words-well invariant-loop decreases-loop → tie.At-loop invariant-loop decreases-loop
+abbrev round : tie.After-words_well invariant-loop-t decreases-loop-t → tie.At-loop-t invariant-loop-t decreases-loop-t
 round c = c.before.before.before.before
 
 -- ---- the needs
 
-loop-holds : tie.Need-loop-init invariant-loop decreases-loop
-loop-holds c = rows-begin (λ tags. refl)
+loop-t-init : tie.Need-loop-t-init invariant-loop-t decreases-loop-t
+loop-t-init c = rows-begin (λ tags. refl)
 
-type-words-requires : tie.Need-type-words-requires invariant-loop decreases-loop
-type-words-requires c κs = omega arith
+type_words-requires : tie.Need-type_words-requires invariant-loop-t decreases-loop-t
+type_words-requires c κs = omega arith
 
-cast-words-well : tie.Need-overflow-cast-words-well invariant-loop decreases-loop
-cast-words-well c = omega arith
+overflow_cast-count : tie.Need-overflow_cast-count invariant-loop-t decreases-loop-t
+overflow_cast-count c = omega arith
 
-head-requires : tie.Need-head-requires invariant-loop decreases-loop
+head-requires : tie.Need-head-requires invariant-loop-t decreases-loop-t
 head-requires c κs = omega arith
 
-words-well-requires : tie.Need-words-well-requires invariant-loop decreases-loop
-words-well-requires c κs = own-eight _ _ _ (omega arith) c.before.type-words.ensures
+words_well-requires : tie.Need-words_well-requires invariant-loop-t decreases-loop-t
+words_well-requires c κs = own-eight _ _ _ (omega arith) c.before.type_words.ensures
 
-refused-requires : tie.Need-refused-requires invariant-loop decreases-loop
+refused-requires : tie.Need-refused-requires invariant-loop-t decreases-loop-t
 refused-requires c κs = omega arith
 
-returns : tie.Need-returns invariant-loop decreases-loop
-returns c = λ tags.
+returns-then-not-words_well : tie.Need-returns-then-not-words_well invariant-loop-t decreases-loop-t
+returns-then-not-words_well c = λ tags.
     let w = c.before.before in
     c.refused.ensures
-    ∙ row-no (round w).loop.invariant tags (omega arith)
-    (fields-no _ tags _ _ w.before.head.ensures _ w.before.before.type-words.ensures (test-false w.words-well.ensures c.before.if1.true))
+    ∙ row-no (round w).loop-t.invariant tags (omega arith)
+    (fields-no _ tags _ _ w.before.head.ensures _ w.before.before.type_words.ensures (test-false w.words_well.ensures c.before.if-not-words_well.true-raw))
 
-add-t : tie.Need-overflow-add-t invariant-loop decreases-loop
-add-t c = omega arith
+overflow_add-t : tie.Need-overflow_add-t invariant-loop-t decreases-loop-t
+overflow_add-t c = omega arith
 
-loop-less : tie.Need-loop-smaller invariant-loop decreases-loop
-loop-less c = omega arith
+loop-t-smaller : tie.Need-loop-t-smaller invariant-loop-t decreases-loop-t
+loop-t-smaller c = omega arith
 
-loop-again : tie.Need-loop-preserved invariant-loop decreases-loop
-loop-again c =
+loop-t-preserved : tie.Need-loop-t-preserved invariant-loop-t decreases-loop-t
+loop-t-preserved c =
     let w = c.before in
-    row-yes (round w).loop.invariant (omega arith)
-    (λ tags. fields-yes _ tags _ _ w.before.head.ensures _ w.before.before.type-words.ensures (test-true w.words-well.ensures c.if1.false))
+    row-yes (round w).loop-t.invariant (omega arith)
+    (λ tags. fields-yes _ tags _ _ w.before.head.ensures _ w.before.before.type_words.ensures (test-true w.words_well.ensures c.if-not-words_well.false-raw))
 
-passed-requires : tie.Need-passed-requires invariant-loop decreases-loop
+passed-requires : tie.Need-passed-requires invariant-loop-t decreases-loop-t
 passed-requires c κs = tt
 
-returns-2 : tie.Need-returns-2 invariant-loop decreases-loop
-returns-2 c = λ tags. c.passed.ensures ∙ rows_end c.before.before.loop.invariant tags (omega arith)
+returns : tie.Need-returns invariant-loop-t decreases-loop-t
+returns c = λ tags. c.passed.ensures ∙ rows_end c.before.before.loop-t.invariant tags (omega arith)
 
-pub field-words-spec : {M : Type 1} → statement M
-field-words-spec =
+pub field_words_spec : {M : Type 1} → statement M
+field_words_spec =
     tie.close
     (tie.spec
-    invariant-loop
-    decreases-loop
-    loop-holds
-    type-words-requires
-    cast-words-well
+    invariant-loop-t
+    decreases-loop-t
+    loop-t-init
+    type_words-requires
+    overflow_cast-count
     head-requires
-    words-well-requires
+    words_well-requires
     refused-requires
-    returns
-    add-t
-    loop-less
-    loop-again
+    returns-then-not-words_well
+    overflow_add-t
+    loop-t-smaller
+    loop-t-preserved
     passed-requires
-    returns-2)
+    returns)

@@ -13,5 +13,5 @@ returns c = simp (eq-eqb _ _ c.if1.true)
 returns-2 : tie.Need-returns-2
 returns-2 c = simp (ne_eqb _ _ c.if1.false)
 
-pub after-byte-spec : {M : Type 1} → statement M
-after-byte-spec = tie.close (tie.spec sub-result returns returns-2)
+pub after_byte_spec : {M : Type 1} → statement M
+after_byte_spec = tie.close (tie.spec sub-result returns returns-2)

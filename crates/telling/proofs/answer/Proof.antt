@@ -97,8 +97,8 @@ returns c =
     (after (same_text (written-plain plain refl (column_of 1 row)) meaning.column2.ensures)
     c.place.ensures)))
 
-pub answer-spec : {M : Type 1} → statement M
-answer-spec =
+pub answer_spec : {M : Type 1} → statement M
+answer_spec =
     tie.close
     (tie.spec
     slice-aggregate-text

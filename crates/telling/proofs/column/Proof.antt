@@ -66,8 +66,8 @@ returns-2 c =
     let row = (start end).args.row.now in
     all-written l row end.loop.i (left-none l row end.loop.i (omega arith)) end.loop.invariant.1
 
-pub column-spec : {M : Type 1} → statement M
-column-spec =
+pub column_spec : {M : Type 1} → statement M
+column_spec =
     tie.close
     (tie.spec
     invariant-loop

@@ -15,5 +15,5 @@ returns-3 c = simp (ne_eqb _ _ c.before.before.if1.false, ne_eqb _ _ c.before.if
 returns-4 : tie.Need-returns-4
 returns-4 c = simp (ne_eqb _ _ c.before.before.if1.false, ne_eqb _ _ c.before.if2.false, ne_eqb _ _ c.if3.false)
 
-pub has-place-spec : {M : Type 1} → statement M
-has-place-spec = tie.close (tie.spec returns returns-2 returns-3 returns-4)
+pub has_place_spec : {M : Type 1} → statement M
+has_place_spec = tie.close (tie.spec returns returns-2 returns-3 returns-4)

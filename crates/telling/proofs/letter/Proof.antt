@@ -51,8 +51,8 @@ returns-4 c =
     same_text (no_number start.args.l start.args.byte (answered not_a.before) not_a.if2.false not_b.if3.false)
     c.put2.ensures
 
-pub letter-spec : {M : Type 1} → statement M
-letter-spec =
+pub letter_spec : {M : Type 1} → statement M
+letter_spec =
     tie.close
     (tie.spec
     put-requires

@@ -55,8 +55,8 @@ returns-2 c =
     same_text (with-place entry.a.number entry.a.first entry.a.second entry.row.now (with test))
     (after marked.text.ensures c.column.ensures)
 
-pub place-spec : {M : Type 1} → statement M
-place-spec =
+pub place_spec : {M : Type 1} → statement M
+place_spec =
     tie.close
     (tie.spec
     has-place-requires

@@ -37,5 +37,5 @@ returns-2 c =
     told-column row entry.requires.0 entry.args.a test.if1.false
     (same_text (written-plain plain refl (column_of entry.args.a.column row)) c.column.ensures)
 
-pub said-spec : {M : Type 1} → statement M
-said-spec = tie.close (tie.spec answer-requires returns column-requires returns-2)
+pub said_spec : {M : Type 1} → statement M
+said_spec = tie.close (tie.spec answer-requires returns column-requires returns-2)

@@ -31,8 +31,8 @@ returns-2 c =
     let n = p.before.before.args.asked in
     c.counting2.ensures ∙ ap (λ (v : Verdict). counting v n) (p.refused-at.ensures ∙ verdict-no _ _ _ p.before.if1.false)
 
-pub answered-spec : {M : Type 1} → statement M
-answered-spec =
+pub answered_spec : {M : Type 1} → statement M
+answered_spec =
     tie.close
     (tie.spec
     passed-requires

@@ -110,8 +110,8 @@ returns-2 c =
           c.edges.ensures.2 _ _ (leading n P A) types views fields since _ ∙ end-asked _ _ _ _ _ _ _ A.count m p.if1.left,
     )
 
-pub block-end-spec : {M : Type 1} → statement M
-block-end-spec =
+pub block_end_spec : {M : Type 1} → statement M
+block_end_spec =
     tie.close
     (tie.spec
     cast-may-end

@@ -76,8 +76,8 @@ returns-3 c =
     c.judge.ensures (routine_of C) (rw u.unfilled.ensures (own-annotated C _ (given e).most)) (own-divided C)
     ∙ check-judges _ _ _ _ (tables-on _ _ _ _ (first e).first-questions.ensures.0 e.if1.left _ p.before.before.annotations.ensures) p.if2.false
 
-pub check-spec : {M : Type 1} → statement M
-check-spec =
+pub check_spec : {M : Type 1} → statement M
+check_spec =
     tie.close
     (tie.spec
     first-questions-requires

@@ -67,8 +67,8 @@ lengths-requires c κs = let l = code-lengths (past-2 c.before) in (l.most, l.lo
 returns-4 : tie.Need-returns-4
 returns-4 c = (at_last (left-3 c.before.before) c.lengths.ensures.0, c.lengths.ensures.1)
 
-pub first-questions-spec : {M : Type 1} → statement M
-first-questions-spec =
+pub first_questions_spec : {M : Type 1} → statement M
+first_questions_spec =
     tie.close
     (tie.spec
     type-lengths-requires

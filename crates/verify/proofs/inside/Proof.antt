@@ -107,8 +107,8 @@ returns-2 c =
       record { inside = omega arith; end = λ z. e; few = omega (arith, l.few) },
     )
 
-pub inside-spec : {M : Type 1} → statement M
-inside-spec =
+pub inside_spec : {M : Type 1} → statement M
+inside_spec =
     tie.close
     (tie.spec
     invariant-loop

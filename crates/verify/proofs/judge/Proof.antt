@@ -165,8 +165,8 @@ returns-2 c =
     λ P A D.
     c.counting.ensures ∙ ap (λ (v : Verdict). counting v l.asked) p.passed.ensures ∙ judge-ends (l.invariant.0 P A D) (omega arith)
 
-pub judge-spec : {M : Type 1} → statement M
-judge-spec =
+pub judge_spec : {M : Type 1} → statement M
+judge_spec =
     tie.close
     (tie.spec
     invariant-loop

@@ -60,7 +60,7 @@ returns c =
     let none = ap length (blanks-end c.before.before.before.args.blocks.now l.b (omega arith)) in
     omega (arith, l.invariant.1, none)
 
-pub blanks-spec : {M : Type 1} → statement M
-blanks-spec =
+pub blanks_spec : {M : Type 1} → statement M
+blanks_spec =
     tie.close
     (tie.spec invariant-loop decreases-loop loop-holds type-words-requires is-blank-requires add-found add-b loop-less loop-again returns)

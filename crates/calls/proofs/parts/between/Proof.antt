@@ -47,8 +47,8 @@ part-result-end-2 c = search rules
 returns-4 : tie.Need-returns-4
 returns-4 c = search rules
 
-pub between-spec : {M : Type 1} → statement M
-between-spec =
+pub between_spec : {M : Type 1} → statement M
+between_spec =
     tie.close
     (tie.spec
     slice-aggregate-result

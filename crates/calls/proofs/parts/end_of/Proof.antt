@@ -22,5 +22,5 @@ shared-slice-read-result c = search rules
 returns-3 : tie.Need-returns-3
 returns-3 c = let s = c.before.before.before in sym (get_or-take s.args.marked s.args.ends.now s.args.i 0 (omega arith))
 
-pub end-of-spec : {M : Type 1} → statement M
-end-of-spec = tie.close (tie.spec returns returns-2 mul-result shared-slice-read-result returns-3)
+pub end_of_spec : {M : Type 1} → statement M
+end_of_spec = tie.close (tie.spec returns returns-2 mul-result shared-slice-read-result returns-3)

@@ -15,5 +15,5 @@ element-copy-out-result c = search rules
 returns-2 : tie.Need-returns-2
 returns-2 c = let s = c.before.before in sym (get_or-take s.args.stored s.args.longs.now 0 0 (omega arith))
 
-pub long-spec : {M : Type 1} → statement M
-long-spec = tie.close (tie.spec returns element-copy-out-result returns-2)
+pub long_spec : {M : Type 1} → statement M
+long_spec = tie.close (tie.spec returns element-copy-out-result returns-2)

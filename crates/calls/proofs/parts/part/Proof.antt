@@ -27,5 +27,5 @@ returns c =
     c.before.before.start_of_lem.ensures
     c.before.end_of_lem.ensures
 
-pub part-spec : {M : Type 1} → statement M
-part-spec = tie.close (tie.spec start-of-requires end-of-requires between-requires returns)
+pub part_spec : {M : Type 1} → statement M
+part_spec = tie.close (tie.spec start-of-requires end-of-requires between-requires returns)

@@ -46,8 +46,8 @@ returns c =
     c.before.word7.ensures
     c.word8.ensures
 
-pub registers-spec : {M : Type 1} → statement M
-registers-spec =
+pub registers_spec : {M : Type 1} → statement M
+registers_spec =
     tie.close
     (tie.spec
     word-requires

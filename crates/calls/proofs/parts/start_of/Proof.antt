@@ -20,5 +20,5 @@ returns-2 c =
     let s = c.before.before.before in
     c.end_of_lem.ensures ∙ one-before 0 (take s.args.marked s.args.ends.now) s.args.i c.before.if1.false
 
-pub start-of-spec : {M : Type 1} → statement M
-start-of-spec = tie.close (tie.spec returns sub-end-of end-of-requires returns-2)
+pub start_of_spec : {M : Type 1} → statement M
+start_of_spec = tie.close (tie.spec returns sub-end-of end-of-requires returns-2)

@@ -18,5 +18,5 @@ shared-slice-read-result c = search rules
 returns-2 : tie.Need-returns-2
 returns-2 c = search rules
 
-pub word-spec : {M : Type 1} → statement M
-word-spec = tie.close (tie.spec returns mul-result shared-slice-read-result returns-2)
+pub word_spec : {M : Type 1} → statement M
+word_spec = tie.close (tie.spec returns mul-result shared-slice-read-result returns-2)

@@ -35,8 +35,8 @@ loop-again c = tt
 returns-2 : tie.Need-returns-2 invariant-loop decreases-loop
 returns-2 c = search rules
 
-pub all-named-spec : {M : Type 1} → statement M
-all-named-spec =
+pub all_named_spec : {M : Type 1} → statement M
+all_named_spec =
     tie.close
     (tie.spec
     invariant-loop

@@ -32,8 +32,8 @@ loop-again c = search rules
 returns-2 : tie.Need-returns-2 invariant-loop decreases-loop
 returns-2 c = search rules
 
-pub input-spec : {M : Type 1} → statement M
-input-spec =
+pub input_spec : {M : Type 1} → statement M
+input_spec =
     tie.close
     (tie.spec
     invariant-loop

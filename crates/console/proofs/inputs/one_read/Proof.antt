@@ -37,8 +37,8 @@ answered-requires c κs = search rules
 returns-3 : tie.Need-returns-3
 returns-3 c = search rules
 
-pub one-read-spec : {M : Type 1} → statement M
-one-read-spec =
+pub one_read_spec : {M : Type 1} → statement M
+one_read_spec =
     tie.close
     (tie.spec
     large-buffer-requires

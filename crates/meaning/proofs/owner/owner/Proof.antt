@@ -16,5 +16,5 @@ element-copy-out-result c = search rules
 returns-2 : tie.Need-returns-2
 returns-2 c = owner-near _ _ c.before.if1.false
 
-pub owner-spec : {M : Type 1} → statement M
-owner-spec = tie.close (tie.spec returns mul-result element-copy-out-result returns-2)
+pub owner_spec : {M : Type 1} → statement M
+owner_spec = tie.close (tie.spec returns mul-result element-copy-out-result returns-2)

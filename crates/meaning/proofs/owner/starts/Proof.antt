@@ -20,5 +20,5 @@ returns : tie.Need-returns
 unfolding starts_at
 returns c = ap (λ (o : ℕ). eqb (o / 65536) (c.before.args.t + 1)) c.owner.ensures
 
-pub starts-spec : {M : Type 1} → statement M
-starts-spec = tie.close (tie.spec owner-requires cast-result add-result returns)
+pub starts_spec : {M : Type 1} → statement M
+starts_spec = tie.close (tie.spec owner-requires cast-result add-result returns)

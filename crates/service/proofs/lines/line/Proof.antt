@@ -103,8 +103,8 @@ returns-2 c =
       },
     )
 
-pub line-spec : {M : Type 1} → statement M
-line-spec =
+pub line_spec : {M : Type 1} → statement M
+line_spec =
     tie.close
     (tie.spec
     line-end-requires

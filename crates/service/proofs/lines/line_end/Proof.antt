@@ -41,8 +41,8 @@ returns-2 c =
     let e = end_none a.before.args.bytes.now a.loop.i (omega arith) in
     (omega (arith, e, a.loop.invariant.0), omega arith)
 
-pub line-end-spec : {M : Type 1} → statement M
-line-end-spec =
+pub line_end_spec : {M : Type 1} → statement M
+line_end_spec =
     tie.close
     (tie.spec
     invariant-loop

@@ -36,5 +36,5 @@ returns c =
     a.answer.ensures
     c.next-line.ensures
 
-pub line-ended-spec : {M : Type 1} → statement M
-line-ended-spec = tie.close (tie.spec end-requires answer-requires next-line-requires returns)
+pub line_ended_spec : {M : Type 1} → statement M
+line_ended_spec = tie.close (tie.spec end-requires answer-requires next-line-requires returns)

@@ -24,6 +24,6 @@ returns c =
     c.before.either.ensures
     c.wrapping-add-u64.ensures
 
-pub next-line-spec : {M : Type 1} → statement M
-next-line-spec =
+pub next_line_spec : {M : Type 1} → statement M
+next_line_spec =
     tie.close (tie.spec fresh-requires either-requires wrapping-add-u64-requires returns)

@@ -17,5 +17,5 @@ shared-slice-read-result c = search rules
 returns-3 : tie.Need-returns-3
 returns-3 c = let e = c.before.before in name-by-first e.before.args.argument.now e.before.args.literal e.if1.false (omega arith)
 
-pub is-name-spec : {M : Type 1} → statement M
-is-name-spec = tie.close (tie.spec returns returns-2 shared-slice-read-result returns-3)
+pub is_name_spec : {M : Type 1} → statement M
+is_name_spec = tie.close (tie.spec returns returns-2 shared-slice-read-result returns-3)

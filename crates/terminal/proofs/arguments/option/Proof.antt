@@ -159,8 +159,8 @@ returns-7 c =
     c.wishing4.ensures
     ∙ option-none s.args.a s.args.argument.now (no_words e1) (no_lines e2) (no_names e3) (no-h e4) (no-help e5) no
 
-pub option-spec : {M : Type 1} → statement M
-option-spec =
+pub option_spec : {M : Type 1} → statement M
+option_spec =
     tie.close
     (tie.spec
     slice-aggregate-same

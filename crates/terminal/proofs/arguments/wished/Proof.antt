@@ -35,8 +35,8 @@ loop-again c = tt
 returns-2 : tie.Need-returns-2 invariant-loop decreases-loop
 returns-2 c = search rules
 
-pub wished-spec : {M : Type 1} → statement M
-wished-spec =
+pub wished_spec : {M : Type 1} → statement M
+wished_spec =
     tie.close
     (tie.spec
     invariant-loop

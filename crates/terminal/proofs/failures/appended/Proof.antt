@@ -39,8 +39,8 @@ loop-again c = tt
 returns-2 : tie.Need-returns-2 invariant-loop decreases-loop
 returns-2 c = search rules
 
-pub appended-spec : {M : Type 1} → statement M
-appended-spec =
+pub appended_spec : {M : Type 1} → statement M
+appended_spec =
     tie.close
     (tie.spec
     invariant-loop

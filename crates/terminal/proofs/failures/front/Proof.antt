@@ -18,5 +18,5 @@ returns c = search rules
 returns-2 : tie.Need-returns-2
 returns-2 c = search rules
 
-pub front-spec : {M : Type 1} → statement M
-front-spec = tie.close (tie.spec slice-aggregate-fail fail-requires returns returns-2)
+pub front_spec : {M : Type 1} → statement M
+front_spec = tie.close (tie.spec slice-aggregate-fail fail-requires returns returns-2)

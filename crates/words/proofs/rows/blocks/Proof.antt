@@ -37,8 +37,8 @@ said-requires-3 c κs = (record { seen = refl; short = lit≤ tt }, omega arith)
 returns-3 : tie.Need-returns-3
 returns-3 c = search rules
 
-pub blocks-spec : {M : Type 1} → statement M
-blocks-spec =
+pub blocks_spec : {M : Type 1} → statement M
+blocks_spec =
     tie.close
     (tie.spec
     slice-aggregate-said

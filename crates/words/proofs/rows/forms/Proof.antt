@@ -47,8 +47,8 @@ said-requires-4 c κs = (record { seen = refl; short = lit≤ tt }, omega arith)
 returns-4 : tie.Need-returns-4
 returns-4 c = search rules
 
-pub forms-spec : {M : Type 1} → statement M
-forms-spec =
+pub forms_spec : {M : Type 1} → statement M
+forms_spec =
     tie.close
     (tie.spec
     slice-aggregate-said

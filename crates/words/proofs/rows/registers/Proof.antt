@@ -27,8 +27,8 @@ said-requires-2 c κs = (record { seen = refl; short = lit≤ tt }, omega arith)
 returns-2 : tie.Need-returns-2
 returns-2 c = search rules
 
-pub registers-spec : {M : Type 1} → statement M
-registers-spec =
+pub registers_spec : {M : Type 1} → statement M
+registers_spec =
     tie.close
     (tie.spec
     slice-aggregate-said

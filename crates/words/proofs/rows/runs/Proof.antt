@@ -47,8 +47,8 @@ said-requires-4 c κs = (record { seen = refl; short = lit≤ tt }, omega arith)
 returns-4 : tie.Need-returns-4
 returns-4 c = search rules
 
-pub runs-spec : {M : Type 1} → statement M
-runs-spec =
+pub runs_spec : {M : Type 1} → statement M
+runs_spec =
     tie.close
     (tie.spec
     slice-aggregate-said

@@ -1,0 +1,15 @@
+-- `table::words_well` meets its contract. The invariant: the words from place f on come to what all come to.
+use mathlib.Core.Path.{◌≡◌, refl, ◌∙◌}
+use Prim.Native.Nat.{◌≤◌, ◌-◌}
+use native.Mathlib.Omega.{arith}
+use Rattle.model.specs.Question.{every}
+use Rattle.table.specs.Row.{row_well}
+use Rattle.table.proofs.Questions.{test-false, test-true, every-on, every-stops, every-end}
+use Rattle.table.proofs.Answers.{place_is}
+use Rattle.table.proofs.words_well.Given as goal
+
+abbrev pub invariant-loop-f : goal.invariant-loop-f
+invariant-loop-f l = (every 8 0 (row_well l.count l.n l.marks l.words) ≡ every (8 - l.f) l.f (row_well l.count l.n l.marks l.words)) × (l.f ≤ 8)
+
+abbrev pub decreases-loop-f : goal.decreases-loop-f
+decreases-loop-f l = 8 - l.f
