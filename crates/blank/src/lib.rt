@@ -1,4 +1,6 @@
 // Blank annotations: the blank blocks, the offered list and its questions, and the annotation row in force.
+#![tactic(auto)]
+
 ghost use Rattle.std.specs.Prelude.{◌≡◌, ℕ, ◌+◌, ◌*◌, ◌≤◌, ◌<◌, List, length, get_or};
 ghost use Rattle.model.specs.Question.{◌or◌, verdict_of};
 ghost use Rattle.model.specs.Blank.{blanks_of, offered_row, in_force, open_annotations_ask, offered_length_ask, offered_rows_ask};

@@ -1,4 +1,6 @@
 // The grammar of a line: the requests as rows of parts, how much a line may hold, the phases of reading it, names and blanks.
+#![tactic(auto)]
+
 ghost use Rattle.std.specs.Prelude.{◌≡◌, true, ◌+◌, ◌≤◌};
 ghost use Rattle.grammar.specs.Grammar.{pool, part_at, given, wanted, bound, names, begins, begun, named};
 ghost use Rattle.grammar.specs.Phase.{blank};

@@ -1,4 +1,6 @@
 // The form of an instruction word: Q7, Q8 and Q9, asked alike by the check and by a run.
+#![tactic(auto)]
+
 ghost use Rattle.std.specs.Prelude.{◌≡◌, true, ◌<◌};
 ghost use Rattle.model.specs.Word.{opcode_of};
 ghost use Rattle.model.specs.Machine.{decode, well_formed, targets_exist};

@@ -2,6 +2,8 @@
 // Everything here only reads.
 //
 // A value is a name below 256; a dependency is a name, or 256 + c for the constant c. A constant c is held as c + 1, and 0 is none.
+#![tactic(auto)]
+
 ghost use Rattle.std.specs.Prelude.{◌≡◌, List, true, false, ℕ, ◌-◌, ◌≤◌, ◌<◌, get_or};
 ghost use Rattle.model.specs.Table.{tables_of};
 ghost use Rattle.model.specs.Values.{birthplace, lead, least_along, root, root_of, held_at, alike, constant_held, constants_of, some, known_equal};

@@ -1,4 +1,6 @@
 // The layout of memory: its length (Q17) and the allocations (Q19), asked after Q1 to Q4.
+#![tactic(auto)]
+
 ghost use Rattle.std.specs.Prelude.{◌≡◌, List, ℕ, ◌+◌, ◌*◌, ◌%◌, ◌≤◌, ◌<◌, length, get_or};
 ghost use Rattle.model.specs.Question.{verdict_of};
 ghost use Rattle.model.specs.Table.{tables_of, memory_length_ask};

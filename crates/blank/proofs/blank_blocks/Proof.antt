@@ -7,54 +7,54 @@ use Rattle.blank.proofs.blank_blocks.Tie as tie
 
 -- ---- places: the first three blank blocks found
 
-abbrev first : tie.After-next-blank2 → tie.After-next-blank
+abbrev first : tie.After-next_blank-second → tie.After-next_blank-first
 first c = c.before
 
-abbrev second : tie.After-next-blank3 → tie.After-next-blank2
+abbrev second : tie.After-next_blank-third → tie.After-next_blank-second
 second c = c.before
 
-abbrev third : tie.After-next-blank4 → tie.After-next-blank3
+abbrev third : tie.After-next_blank-fourth → tie.After-next_blank-third
 third c = c.before
 
 -- ---- the needs
 
-next-blank-requires : tie.Need-next-blank-requires
-next-blank-requires c κs = search rules
+next_blank-first-requires : tie.Need-next_blank-first-requires
+next_blank-first-requires c κs = search rules
 
-add-next-blank : tie.Need-overflow-add-next-blank
-add-next-blank c = omega (arith, c.next-blank.ensures)
+overflow_add-first : tie.Need-overflow_add-first
+overflow_add-first c = omega (arith, c.next_blank-first.ensures)
 
-next-blank-requires-2 : tie.Need-next-blank-requires-2
-next-blank-requires-2 c κs = search rules
+next_blank-second-requires : tie.Need-next_blank-second-requires
+next_blank-second-requires c κs = search rules
 
-add-next-blank-2 : tie.Need-overflow-add-next-blank-2
-add-next-blank-2 c = omega (arith, c.next-blank2.ensures)
+overflow_add-second : tie.Need-overflow_add-second
+overflow_add-second c = omega (arith, c.next_blank-second.ensures)
 
-next-blank-requires-3 : tie.Need-next-blank-requires-3
-next-blank-requires-3 c κs = search rules
+next_blank-third-requires : tie.Need-next_blank-third-requires
+next_blank-third-requires c κs = search rules
 
-add-next-blank-3 : tie.Need-overflow-add-next-blank-3
-add-next-blank-3 c = omega (arith, c.next-blank3.ensures)
+overflow_add-third : tie.Need-overflow_add-third
+overflow_add-third c = omega (arith, c.next_blank-third.ensures)
 
-next-blank-requires-4 : tie.Need-next-blank-requires-4
-next-blank-requires-4 c κs = search rules
+next_blank-fourth-requires : tie.Need-next_blank-fourth-requires
+next_blank-fourth-requires c κs = search rules
 
 returns : tie.Need-returns
 returns c =
     let t = third c in
     let s = second t in
     let f = first s in
-    all_listed _ f.before.before.pre _ _ _ _ f.next-blank.ensures s.next-blank2.ensures t.next-blank3.ensures c.next-blank4.ensures
+    all_listed _ f.before.before.requires _ _ _ _ f.next_blank-first.ensures s.next_blank-second.ensures t.next_blank-third.ensures c.next_blank-fourth.ensures
 
 pub blank_blocks_spec : {M : Type 1} → statement M
 blank_blocks_spec =
     tie.close
     (tie.spec
-    next-blank-requires
-    add-next-blank
-    next-blank-requires-2
-    add-next-blank-2
-    next-blank-requires-3
-    add-next-blank-3
-    next-blank-requires-4
+    next_blank-first-requires
+    overflow_add-first
+    next_blank-second-requires
+    overflow_add-second
+    next_blank-third-requires
+    overflow_add-third
+    next_blank-fourth-requires
     returns)

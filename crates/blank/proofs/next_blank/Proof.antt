@@ -9,55 +9,55 @@ use Rattle.blank.proofs.Laws.{blank-is, blanks-on, blanks-here, blanks-end}
 use Rattle.blank.proofs.next_blank.Statement.{statement}
 use Rattle.blank.proofs.next_blank.Tie as tie
 
-abbrev invariant-loop : tie.invariant-loop
-invariant-loop blocks from count b₀ b = blanks_from blocks (rows blocks - from) from ≡ blanks_from blocks (rows blocks - b) b
+abbrev invariant-loop-b : tie.invariant-loop-b
+invariant-loop-b blocks from count b₀ b = blanks_from blocks (rows blocks - from) from ≡ blanks_from blocks (rows blocks - b) b
 
-abbrev decreases-loop : tie.decreases-loop
-decreases-loop blocks from count b₀ b = rows blocks - b
+abbrev decreases-loop-b : tie.decreases-loop-b
+decreases-loop-b blocks from count b₀ b = rows blocks - b
 
 -- the loop where a block is judged
-abbrev round : tie.After-is-blank invariant-loop decreases-loop → tie.At-loop invariant-loop decreases-loop
+abbrev round : tie.After-is_blank invariant-loop-b decreases-loop-b → tie.At-loop-b invariant-loop-b decreases-loop-b
 round c = c.before.before.before
 
 -- ---- the needs
 
-loop-holds : tie.Need-loop-init invariant-loop decreases-loop
-loop-holds c = refl
+loop-b-init : tie.Need-loop-b-init invariant-loop-b decreases-loop-b
+loop-b-init c = refl
 
-type-words-requires : tie.Need-type-words-requires invariant-loop decreases-loop
-type-words-requires c κs = omega arith
+type_words-requires : tie.Need-type_words-requires invariant-loop-b decreases-loop-b
+type_words-requires c κs = omega arith
 
-is-blank-requires : tie.Need-is-blank-requires invariant-loop decreases-loop
-is-blank-requires c κs = own-eight _ _ _ (omega arith) c.type-words.ensures
+is_blank-requires : tie.Need-is_blank-requires invariant-loop-b decreases-loop-b
+is_blank-requires c κs = own-eight _ _ _ (omega arith) c.type_words.ensures
 
-returns : tie.Need-returns invariant-loop decreases-loop
-returns c =
+returns-then-is_blank : tie.Need-returns-then-is_blank invariant-loop-b decreases-loop-b
+returns-then-is_blank c =
     let w = c.before in
-    let blank = sym (w.is-blank.ensures ∙ blank-is _ _ _ w.before.type-words.ensures) ∙ c.if1.true in
+    let blank = sym (w.is_blank.ensures ∙ blank-is _ _ _ w.before.type_words.ensures) ∙ c.if-is_blank.true in
     record {
       within = omega arith;
-      found = λ h. (omega arith, (round w).loop.invariant ∙ blanks-here _ _ (omega arith) blank);
+      found = λ h. (omega arith, (round w).loop-b.invariant ∙ blanks-here _ _ (omega arith) blank);
       none = λ h. absurd (omega arith);
     }
 
-add-b : tie.Need-overflow-add-b invariant-loop decreases-loop
-add-b c = omega arith
+overflow_add-b : tie.Need-overflow_add-b invariant-loop-b decreases-loop-b
+overflow_add-b c = omega arith
 
-loop-less : tie.Need-loop-smaller invariant-loop decreases-loop
-loop-less c = omega arith
+loop-b-smaller : tie.Need-loop-b-smaller invariant-loop-b decreases-loop-b
+loop-b-smaller c = omega arith
 
-loop-again : tie.Need-loop-preserved invariant-loop decreases-loop
-loop-again c =
+loop-b-preserved : tie.Need-loop-b-preserved invariant-loop-b decreases-loop-b
+loop-b-preserved c =
     let w = c.before in
-    (round w).loop.invariant
-    ∙ blanks-on _ _ (omega arith) (sym (w.is-blank.ensures ∙ blank-is _ _ _ w.before.type-words.ensures) ∙ c.if1.false)
+    (round w).loop-b.invariant
+    ∙ blanks-on _ _ (omega arith) (sym (w.is_blank.ensures ∙ blank-is _ _ _ w.before.type_words.ensures) ∙ c.if-is_blank.false)
 
-returns-2 : tie.Need-returns-2 invariant-loop decreases-loop
-returns-2 c =
-    let l = c.before.loop in
+returns : tie.Need-returns invariant-loop-b decreases-loop-b
+returns c =
+    let l = c.before.loop-b in
     record { within = omega arith; found = λ h. absurd (omega arith); none = λ h. l.invariant ∙ blanks-end _ _ (omega arith) }
 
 pub next_blank_spec : {M : Type 1} → statement M
 next_blank_spec =
     tie.close
-    (tie.spec invariant-loop decreases-loop loop-holds type-words-requires is-blank-requires returns add-b loop-less loop-again returns-2)
+    (tie.spec invariant-loop-b decreases-loop-b loop-b-init type_words-requires is_blank-requires returns-then-is_blank overflow_add-b loop-b-smaller loop-b-preserved returns)

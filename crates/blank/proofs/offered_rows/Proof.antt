@@ -8,69 +8,69 @@ use Rattle.blank.proofs.Laws.{eight-offered, offered_ask, offered-yes, offered-n
 use Rattle.blank.proofs.offered_rows.Statement.{statement}
 use Rattle.blank.proofs.offered_rows.Tie as tie
 
-abbrev invariant-loop : tie.invariant-loop
-invariant-loop count offered total k₀ k =
+abbrev invariant-loop-k : tie.invariant-loop-k
+invariant-loop-k count offered total k₀ k =
     RowsLeft {X = Unit {0}} (λ _. offered_rows_ask count offered) (λ _. offered_ask count offered) (offers offered) k
 
-abbrev decreases-loop : tie.decreases-loop
-decreases-loop count offered total k₀ k = offers offered - k
+abbrev decreases-loop-k : tie.decreases-loop-k
+decreases-loop-k count offered total k₀ k = offers offered - k
 
 -- the loop where a row is judged
-abbrev round : tie.After-annotation-well invariant-loop decreases-loop → tie.At-loop invariant-loop decreases-loop
+abbrev round : tie.After-annotation_well invariant-loop-k decreases-loop-k → tie.At-loop-k invariant-loop-k decreases-loop-k
 round c = c.before.before.before
 
 -- ---- the needs
 
-loop-holds : tie.Need-loop-init invariant-loop decreases-loop
-loop-holds c = rows-begin (λ _. unfold offered_rows_ask in refl)
+loop-k-init : tie.Need-loop-k-init invariant-loop-k decreases-loop-k
+loop-k-init c = rows-begin (λ _. unfold offered_rows_ask in refl)
 
-offered-row-requires : tie.Need-offered-row-requires invariant-loop decreases-loop
-offered-row-requires c κs = omega arith
+offered_row-requires : tie.Need-offered_row-requires invariant-loop-k decreases-loop-k
+offered_row-requires c κs = omega arith
 
-annotation-well-requires : tie.Need-annotation-well-requires invariant-loop decreases-loop
-annotation-well-requires c κs = eight-offered _ _ _ (omega arith) c.offered-row.ensures
+annotation_well-requires : tie.Need-annotation_well-requires invariant-loop-k decreases-loop-k
+annotation_well-requires c κs = eight-offered _ _ _ (omega arith) c.offered_row.ensures
 
-refused-requires : tie.Need-refused-requires invariant-loop decreases-loop
+refused-requires : tie.Need-refused-requires invariant-loop-k decreases-loop-k
 refused-requires c κs = omega arith
 
-returns : tie.Need-returns invariant-loop decreases-loop
-returns c =
+returns-then-not-annotation_well : tie.Need-returns-then-not-annotation_well invariant-loop-k decreases-loop-k
+returns-then-not-annotation_well c =
     let w = c.before.before in
     c.refused.ensures
-    ∙ row-no (round w).loop.invariant tt (omega arith)
-    (offered-no _ _ _ _ w.before.offered-row.ensures (test-false w.annotation-well.ensures c.before.if1.true))
+    ∙ row-no (round w).loop-k.invariant tt (omega arith)
+    (offered-no _ _ _ _ w.before.offered_row.ensures (test-false w.annotation_well.ensures c.before.if-not-annotation_well.true-raw))
 
-add-k : tie.Need-overflow-add-k invariant-loop decreases-loop
-add-k c = omega arith
+overflow_add-k : tie.Need-overflow_add-k invariant-loop-k decreases-loop-k
+overflow_add-k c = omega arith
 
-loop-less : tie.Need-loop-smaller invariant-loop decreases-loop
-loop-less c = omega arith
+loop-k-smaller : tie.Need-loop-k-smaller invariant-loop-k decreases-loop-k
+loop-k-smaller c = omega arith
 
-loop-again : tie.Need-loop-preserved invariant-loop decreases-loop
-loop-again c =
+loop-k-preserved : tie.Need-loop-k-preserved invariant-loop-k decreases-loop-k
+loop-k-preserved c =
     let w = c.before in
-    row-yes (round w).loop.invariant (omega arith)
-    (λ _. offered-yes _ _ _ _ w.before.offered-row.ensures (test-true w.annotation-well.ensures c.if1.false))
+    row-yes (round w).loop-k.invariant (omega arith)
+    (λ _. offered-yes _ _ _ _ w.before.offered_row.ensures (test-true w.annotation_well.ensures c.if-not-annotation_well.false-raw))
 
-passed-requires : tie.Need-passed-requires invariant-loop decreases-loop
+passed-requires : tie.Need-passed-requires invariant-loop-k decreases-loop-k
 passed-requires c κs = tt
 
-returns-2 : tie.Need-returns-2 invariant-loop decreases-loop
-returns-2 c = c.passed.ensures ∙ rows_end c.before.before.loop.invariant tt (omega arith)
+returns : tie.Need-returns invariant-loop-k decreases-loop-k
+returns c = c.passed.ensures ∙ rows_end c.before.before.loop-k.invariant tt (omega arith)
 
 pub offered_rows_spec : {M : Type 1} → statement M
 offered_rows_spec =
     tie.close
     (tie.spec
-    invariant-loop
-    decreases-loop
-    loop-holds
-    offered-row-requires
-    annotation-well-requires
+    invariant-loop-k
+    decreases-loop-k
+    loop-k-init
+    offered_row-requires
+    annotation_well-requires
     refused-requires
-    returns
-    add-k
-    loop-less
-    loop-again
+    returns-then-not-annotation_well
+    overflow_add-k
+    loop-k-smaller
+    loop-k-preserved
     passed-requires
-    returns-2)
+    returns)

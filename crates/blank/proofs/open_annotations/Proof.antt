@@ -10,68 +10,68 @@ use Rattle.blank.proofs.Laws.{open_ask, open-yes, open_no}
 use Rattle.blank.proofs.open_annotations.Statement.{statement}
 use Rattle.blank.proofs.open_annotations.Tie as tie
 
-abbrev invariant-loop : tie.invariant-loop
-invariant-loop count blocks total b₀ b = RowsLeft {X = Unit {0}} (λ _. open_annotations_ask count blocks) (λ _. open_ask count blocks) (rows blocks) b
+abbrev invariant-loop-b : tie.invariant-loop-b
+invariant-loop-b count blocks total b₀ b = RowsLeft {X = Unit {0}} (λ _. open_annotations_ask count blocks) (λ _. open_ask count blocks) (rows blocks) b
 
-abbrev decreases-loop : tie.decreases-loop
-decreases-loop count blocks total b₀ b = rows blocks - b
+abbrev decreases-loop-b : tie.decreases-loop-b
+decreases-loop-b count blocks total b₀ b = rows blocks - b
 
 -- the loop where a row is judged
-abbrev round : tie.After-may-stand invariant-loop decreases-loop → tie.At-loop invariant-loop decreases-loop
+abbrev round : tie.After-may_stand invariant-loop-b decreases-loop-b → tie.At-loop-b invariant-loop-b decreases-loop-b
 round c = c.before.before.before
 
 -- ---- the needs
 
-loop-holds : tie.Need-loop-init invariant-loop decreases-loop
-loop-holds c = rows-begin (λ _. unfold open_annotations_ask in refl)
+loop-b-init : tie.Need-loop-b-init invariant-loop-b decreases-loop-b
+loop-b-init c = rows-begin (λ _. unfold open_annotations_ask in refl)
 
-type-words-requires : tie.Need-type-words-requires invariant-loop decreases-loop
-type-words-requires c κs = omega arith
+type_words-requires : tie.Need-type_words-requires invariant-loop-b decreases-loop-b
+type_words-requires c κs = omega arith
 
-may-stand-requires : tie.Need-may-stand-requires invariant-loop decreases-loop
-may-stand-requires c κs = own-eight _ _ _ (omega arith) c.type-words.ensures
+may_stand-requires : tie.Need-may_stand-requires invariant-loop-b decreases-loop-b
+may_stand-requires c κs = own-eight _ _ _ (omega arith) c.type_words.ensures
 
-refused-requires : tie.Need-refused-requires invariant-loop decreases-loop
+refused-requires : tie.Need-refused-requires invariant-loop-b decreases-loop-b
 refused-requires c κs = omega arith
 
-returns : tie.Need-returns invariant-loop decreases-loop
-returns c =
+returns-then-not-may_stand : tie.Need-returns-then-not-may_stand invariant-loop-b decreases-loop-b
+returns-then-not-may_stand c =
     let w = c.before.before in
     c.refused.ensures
-    ∙ row-no (round w).loop.invariant tt (omega arith)
-    (open_no _ _ _ _ w.before.type-words.ensures (test-false w.may-stand.ensures c.before.if1.true))
+    ∙ row-no (round w).loop-b.invariant tt (omega arith)
+    (open_no _ _ _ _ w.before.type_words.ensures (test-false w.may_stand.ensures c.before.if-not-may_stand.true-raw))
 
-add-b : tie.Need-overflow-add-b invariant-loop decreases-loop
-add-b c = omega arith
+overflow_add-b : tie.Need-overflow_add-b invariant-loop-b decreases-loop-b
+overflow_add-b c = omega arith
 
-loop-less : tie.Need-loop-smaller invariant-loop decreases-loop
-loop-less c = omega arith
+loop-b-smaller : tie.Need-loop-b-smaller invariant-loop-b decreases-loop-b
+loop-b-smaller c = omega arith
 
-loop-again : tie.Need-loop-preserved invariant-loop decreases-loop
-loop-again c =
+loop-b-preserved : tie.Need-loop-b-preserved invariant-loop-b decreases-loop-b
+loop-b-preserved c =
     let w = c.before in
-    row-yes (round w).loop.invariant (omega arith)
-    (λ _. open-yes _ _ _ _ w.before.type-words.ensures (test-true w.may-stand.ensures c.if1.false))
+    row-yes (round w).loop-b.invariant (omega arith)
+    (λ _. open-yes _ _ _ _ w.before.type_words.ensures (test-true w.may_stand.ensures c.if-not-may_stand.false-raw))
 
-passed-requires : tie.Need-passed-requires invariant-loop decreases-loop
+passed-requires : tie.Need-passed-requires invariant-loop-b decreases-loop-b
 passed-requires c κs = tt
 
-returns-2 : tie.Need-returns-2 invariant-loop decreases-loop
-returns-2 c = c.passed.ensures ∙ rows_end c.before.before.loop.invariant tt (omega arith)
+returns : tie.Need-returns invariant-loop-b decreases-loop-b
+returns c = c.passed.ensures ∙ rows_end c.before.before.loop-b.invariant tt (omega arith)
 
 pub open_annotations_spec : {M : Type 1} → statement M
 open_annotations_spec =
     tie.close
     (tie.spec
-    invariant-loop
-    decreases-loop
-    loop-holds
-    type-words-requires
-    may-stand-requires
+    invariant-loop-b
+    decreases-loop-b
+    loop-b-init
+    type_words-requires
+    may_stand-requires
     refused-requires
-    returns
-    add-b
-    loop-less
-    loop-again
+    returns-then-not-may_stand
+    overflow_add-b
+    loop-b-smaller
+    loop-b-preserved
     passed-requires
-    returns-2)
+    returns)

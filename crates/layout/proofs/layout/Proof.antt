@@ -10,62 +10,62 @@ use Rattle.layout.proofs.layout.Tie as tie
 
 -- ---- the places past each question, and what is left to ask there
 
-abbrev start : tie.Else1 → tie.Start
+abbrev start : tie.Else-lengths-ne-PASSED → tie.Start
 start c = c.before.before.before.before.before.before
 
-abbrev past-1 : tie.Else2 → tie.Else1
+abbrev past-1 : tie.Else-made-ne-PASSED → tie.Else-lengths-ne-PASSED
 past-1 c = c.before.before.before
 
-abbrev past-2 : tie.Else3 → tie.Else2
+abbrev past-2 : tie.Else-memory-ne-PASSED → tie.Else-made-ne-PASSED
 past-2 c = c.before.before.before
 
 abbrev Past : tie.Start → ℕ → Type 0
 Past s = LayoutPast s.args.types.now s.args.tags.now s.args.allocations.now s.args.top
 
-left-1 : (c : tie.Else1) → Past (start c) 1
-left-1 c = after-yes (layout-begins _ _ _ _) c.before.before.type-lengths.ensures c.if1.false
+left-1 : (c : tie.Else-lengths-ne-PASSED) → Past (start c) 1
+left-1 c = after-yes (layout-begins _ _ _ _) c.before.before.type_lengths-lengths.ensures c.if-lengths-ne-PASSED.false
 
-left-2 : (c : tie.Else2) → Past (start (past-1 c)) 2
-left-2 c = after-yes (left-1 (past-1 c)) c.before.before.types.ensures c.if2.false
+left-2 : (c : tie.Else-made-ne-PASSED) → Past (start (past-1 c)) 2
+left-2 c = after-yes (left-1 (past-1 c)) c.before.before.types-made.ensures c.if-made-ne-PASSED.false
 
-left-3 : (c : tie.Else3) → Past (start (past-1 (past-2 c))) 3
-left-3 c = after-yes (left-2 (past-2 c)) c.before.before.memory-length.ensures c.if3.false
+left-3 : (c : tie.Else-memory-ne-PASSED) → Past (start (past-1 (past-2 c))) 3
+left-3 c = after-yes (left-2 (past-2 c)) c.before.before.memory_length-memory.ensures c.if-memory-ne-PASSED.false
 
 -- ---- the needs
 
-type-lengths-requires : tie.Need-type-lengths-requires
-type-lengths-requires c κs = search rules
+type_lengths-lengths-requires : tie.Need-type_lengths-lengths-requires
+type_lengths-lengths-requires c κs = search rules
 
-returns : tie.Need-returns
-returns c = at-no (layout-begins _ _ _ _) c.before.before.type-lengths.ensures c.if1.true
+returns-then-lengths-ne-PASSED : tie.Need-returns-then-lengths-ne-PASSED
+returns-then-lengths-ne-PASSED c = at-no (layout-begins _ _ _ _) c.before.before.type_lengths-lengths.ensures c.if-lengths-ne-PASSED.true
 
-types-requires : tie.Need-types-requires
-types-requires c κs = omega (arith, type-lengths-passed _ _ _ c.before.before.type-lengths.ensures c.if1.false)
+types-made-requires : tie.Need-types-made-requires
+types-made-requires c κs = omega (arith, type-lengths-passed _ _ _ c.before.before.type_lengths-lengths.ensures c.if-lengths-ne-PASSED.false)
 
-returns-2 : tie.Need-returns-2
-returns-2 c = at-no (left-1 c.before.before.before) c.before.before.types.ensures c.if2.true
+returns-then-made-ne-PASSED : tie.Need-returns-then-made-ne-PASSED
+returns-then-made-ne-PASSED c = at-no (left-1 c.before.before.before) c.before.before.types-made.ensures c.if-made-ne-PASSED.true
 
-memory-length-requires : tie.Need-memory-length-requires
-memory-length-requires c κs = search rules
+memory_length-memory-requires : tie.Need-memory_length-memory-requires
+memory_length-memory-requires c κs = search rules
 
-returns-3 : tie.Need-returns-3
-returns-3 c = at-no (left-2 c.before.before.before) c.before.before.memory-length.ensures c.if3.true
+returns-then-memory-ne-PASSED : tie.Need-returns-then-memory-ne-PASSED
+returns-then-memory-ne-PASSED c = at-no (left-2 c.before.before.before) c.before.before.memory_length-memory.ensures c.if-memory-ne-PASSED.true
 
 allocations-requires : tie.Need-allocations-requires
 allocations-requires c κs = search rules
 
-returns-4 : tie.Need-returns-4
-returns-4 c = at_last (left-3 c.before) (c.allocations.ensures _)
+returns : tie.Need-returns
+returns c = at_last (left-3 c.before) (c.allocations.ensures _)
 
 pub layout_spec : {M : Type 1} → statement M
 layout_spec =
     tie.close
     (tie.spec
-    type-lengths-requires
-    returns
-    types-requires
-    returns-2
-    memory-length-requires
-    returns-3
+    type_lengths-lengths-requires
+    returns-then-lengths-ne-PASSED
+    types-made-requires
+    returns-then-made-ne-PASSED
+    memory_length-memory-requires
+    returns-then-memory-ne-PASSED
     allocations-requires
-    returns-4)
+    returns)

@@ -9,100 +9,100 @@ use Rattle.layout.proofs.Layouts.{RowAt, laid-exists, AllocationsLeft, allocatio
 use Rattle.layout.proofs.rows.Statement.{statement}
 use Rattle.layout.proofs.rows.Tie as tie
 
-abbrev invariant-loop : tie.invariant-loop
-invariant-loop types allocations top count low₀ k₀ low k = AllocationsLeft types allocations top k low
+abbrev invariant-loop-k : tie.invariant-loop-k
+invariant-loop-k types allocations top count low₀ k₀ low k = AllocationsLeft types allocations top k low
 
-abbrev decreases-loop : tie.decreases-loop
-decreases-loop types allocations top count low₀ k₀ low k = length allocations / 2 - k
+abbrev decreases-loop-k : tie.decreases-loop-k
+decreases-loop-k types allocations top count low₀ k₀ low k = length allocations / 2 - k
 
 -- ---- where the row at hand has been judged: the loop it stands in, and the row
 
-abbrev allocations : tie.At-loop invariant-loop decreases-loop → List ℕ
+abbrev allocations : tie.At-loop-k invariant-loop-k decreases-loop-k → List ℕ
 allocations c = c.before.before.before.args.allocations.now
 
-abbrev started : tie.After-is-laid invariant-loop decreases-loop → tie.After-start invariant-loop decreases-loop
+abbrev started : tie.After-is_laid invariant-loop-k decreases-loop-k → tie.After-start-p invariant-loop-k decreases-loop-k
 started c = c.before.before
 
-abbrev round : tie.After-is-laid invariant-loop decreases-loop → tie.At-loop invariant-loop decreases-loop
+abbrev round : tie.After-is_laid invariant-loop-k decreases-loop-k → tie.At-loop-k invariant-loop-k decreases-loop-k
 round c = (started c).before.before
 
-row : (c : tie.After-is-laid invariant-loop decreases-loop)
-    → RowAt (allocations (round c)) (round c).loop.k (started c).start.result c.before.record-type.result
-row c = record { whole = omega arith; start = (started c).start.ensures; typed = c.before.record-type.ensures }
+row : (c : tie.After-is_laid invariant-loop-k decreases-loop-k)
+    → RowAt (allocations (round c)) (round c).loop-k.k (started c).start-p.result c.before.record_type-t.result
+row c = record { whole = omega arith; start = (started c).start-p.ensures; typed = c.before.record_type-t.ensures }
 
 -- ---- the needs
 
-loop-holds : tie.Need-loop-init invariant-loop decreases-loop
-loop-holds c = allocations-begin _ _ _
+loop-k-init : tie.Need-loop-k-init invariant-loop-k decreases-loop-k
+loop-k-init c = allocations-begin _ _ _
 
-start-requires : tie.Need-start-requires invariant-loop decreases-loop
-start-requires c κs = omega arith
+start-p-requires : tie.Need-start-p-requires invariant-loop-k decreases-loop-k
+start-p-requires c κs = omega arith
 
-record-type-requires : tie.Need-record-type-requires invariant-loop decreases-loop
-record-type-requires c κs = omega arith
+record_type-t-requires : tie.Need-record_type-t-requires invariant-loop-k decreases-loop-k
+record_type-t-requires c κs = omega arith
 
-is-laid-requires : tie.Need-is-laid-requires invariant-loop decreases-loop
-is-laid-requires c κs = tt
+is_laid-requires : tie.Need-is_laid-requires invariant-loop-k decreases-loop-k
+is_laid-requires c κs = tt
 
-refused-requires : tie.Need-refused-requires invariant-loop decreases-loop
+refused-requires : tie.Need-refused-requires invariant-loop-k decreases-loop-k
 refused-requires c κs = omega arith
 
-returns : tie.Need-returns invariant-loop decreases-loop
-returns c = λ tags.
+returns-then-not-is_laid : tie.Need-returns-then-not-is_laid invariant-loop-k decreases-loop-k
+returns-then-not-is_laid c = λ tags.
     let b = c.before.before in
-    c.refused.ensures ∙ row-not-laid (round b).loop.invariant (row b) tags (test-false (b.is-laid.ensures tags) c.before.if1.true)
+    c.refused.ensures ∙ row-not-laid (round b).loop-k.invariant (row b) tags (test-false (b.is_laid.ensures tags) c.before.if-not-is_laid.true-raw)
 
-cast-low : tie.Need-overflow-cast-low invariant-loop decreases-loop
-cast-low c = omega arith
+overflow_cast-low : tie.Need-overflow_cast-low invariant-loop-k decreases-loop-k
+overflow_cast-low c = omega arith
 
-cast-head : tie.Need-overflow-cast-head invariant-loop decreases-loop
-cast-head c = omega arith
+overflow_cast-t : tie.Need-overflow_cast-t invariant-loop-k decreases-loop-k
+overflow_cast-t c = omega arith
 
-head-requires : tie.Need-head-requires invariant-loop decreases-loop
-head-requires c κs = omega (arith, laid-exists _ [] _ _ _ _ (test-true (c.before.is-laid.ensures []) c.if1.false))
+head-requires : tie.Need-head-requires invariant-loop-k decreases-loop-k
+head-requires c κs = omega (arith, laid-exists _ [] _ _ _ _ (test-true (c.before.is_laid.ensures []) c.if-not-is_laid.false-raw))
 
-cast-low-2 : tie.Need-overflow-cast-low-2 invariant-loop decreases-loop
-cast-low-2 c = omega arith
+overflow_cast-low-in-loop-k : tie.Need-overflow_cast-low-in-loop-k invariant-loop-k decreases-loop-k
+overflow_cast-low-in-loop-k c = omega arith
 
-add_low : tie.Need-overflow-add-low invariant-loop decreases-loop
-add_low c = omega arith
+overflow_add-low : tie.Need-overflow_add-low invariant-loop-k decreases-loop-k
+overflow_add-low c = omega arith
 
-add-k : tie.Need-overflow-add-k invariant-loop decreases-loop
-add-k c = omega arith
+overflow_add-k : tie.Need-overflow_add-k invariant-loop-k decreases-loop-k
+overflow_add-k c = omega arith
 
-loop-less : tie.Need-loop-smaller invariant-loop decreases-loop
-loop-less c = omega arith
+loop-k-smaller : tie.Need-loop-k-smaller invariant-loop-k decreases-loop-k
+loop-k-smaller c = omega arith
 
-loop-again : tie.Need-loop-preserved invariant-loop decreases-loop
-loop-again c =
+loop-k-preserved : tie.Need-loop-k-preserved invariant-loop-k decreases-loop-k
+loop-k-preserved c =
     let b = c.before.before in
-    row_laid (round b).loop.invariant (row b) _ c.head.ensures (λ tags. test-true (b.is-laid.ensures tags) c.before.if1.false)
+    row_laid (round b).loop-k.invariant (row b) _ c.head.ensures (λ tags. test-true (b.is_laid.ensures tags) c.before.if-not-is_laid.false-raw)
 
-passed-requires : tie.Need-passed-requires invariant-loop decreases-loop
+passed-requires : tie.Need-passed-requires invariant-loop-k decreases-loop-k
 passed-requires c κs = tt
 
-returns-2 : tie.Need-returns-2 invariant-loop decreases-loop
-returns-2 c = λ tags. c.passed.ensures ∙ allocations-end c.before.before.loop.invariant tags (omega arith)
+returns : tie.Need-returns invariant-loop-k decreases-loop-k
+returns c = λ tags. c.passed.ensures ∙ allocations-end c.before.before.loop-k.invariant tags (omega arith)
 
 pub rows_spec : {M : Type 1} → statement M
 rows_spec =
     tie.close
     (tie.spec
-    invariant-loop
-    decreases-loop
-    loop-holds
-    start-requires
-    record-type-requires
-    is-laid-requires
+    invariant-loop-k
+    decreases-loop-k
+    loop-k-init
+    start-p-requires
+    record_type-t-requires
+    is_laid-requires
     refused-requires
-    returns
-    cast-low
-    cast-head
+    returns-then-not-is_laid
+    overflow_cast-low
+    overflow_cast-t
     head-requires
-    cast-low-2
-    add_low
-    add-k
-    loop-less
-    loop-again
+    overflow_cast-low-in-loop-k
+    overflow_add-low
+    overflow_add-k
+    loop-k-smaller
+    loop-k-preserved
     passed-requires
-    returns-2)
+    returns)

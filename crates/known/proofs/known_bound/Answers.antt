@@ -1,0 +1,17 @@
+-- `known::known_bound` meets its contract.
+use native.Mathlib.Omega.{arith}
+use Rattle.known.proofs.Answers.{equal-one, equal-constants}
+use borrow.Author.Rules.{rules}
+use Rattle.known.proofs.known_bound.Goals as goal
+
+pub returns-then-x-y : goal.returns-then-x-y
+returns-then-x-y c = λ tested equal paired. equal-one _ _ _ _ _ _ _ (omega arith)
+
+pub returns-then-c-own_constant : goal.returns-then-c-own_constant
+returns-then-c-own_constant c =
+    let y = c.before in
+    let x = y.before.before in
+    λ tested equal paired.
+    let (kx, rx) = x.own_constant-c.ensures _ tested equal in
+    let (ky, ry) = y.own_constant.ensures _ tested equal in
+    equal-constants _ _ _ _ _ _ _ _ _ kx (rx (omega arith)) ky (ry (omega arith)) (omega arith) (omega arith)

@@ -1,0 +1,11 @@
+-- `known::named` meets its contract.
+use native.Mathlib.Omega.{arith}
+use Rattle.known.proofs.Numbers.{named-name, named-constant}
+use borrow.Author.Rules.{rules}
+use Rattle.known.proofs.named.Goals as goal
+
+pub returns-then-x-lt-CONSTANTS : goal.returns-then-x-lt-CONSTANTS
+returns-then-x-lt-CONSTANTS c = named-name _ _ (omega arith) _ c.wide.ensures.0 (omega arith)
+
+pub returns : goal.returns
+returns c = named-constant _ _ (omega arith)

@@ -1,0 +1,11 @@
+-- `known::sibling` meets its contract.
+use native.Mathlib.Omega.{arith}
+use Rattle.known.proofs.Numbers.{sibling-name, sibling-constant}
+use borrow.Author.Rules.{rules}
+use Rattle.known.proofs.sibling.Goals as goal
+
+pub returns-then-x-lt-CONSTANTS : goal.returns-then-x-lt-CONSTANTS
+returns-then-x-lt-CONSTANTS c = sibling-name _ _ (omega arith) (omega arith)
+
+pub returns : goal.returns
+returns c = sibling-constant _ _ (omega arith)
