@@ -1,4 +1,6 @@
 // The meanings: whether a word meets its type word, and the first word of a record or of the registers that does not.
+#![tactic(auto)]
+
 ghost use Rattle.std.specs.Prelude.{◌≡◌, List, ℕ, ◌-◌, ◌≤◌, ◌<◌, length, get_or};
 ghost use Rattle.model.specs.Word.{difference};
 ghost use Rattle.model.specs.Types.{type_of, dep_of, word_of};

@@ -1,4 +1,6 @@
 // Numbers: the digits, what a digit counts by and leads to, and a number in one piece with the blank that ends it.
+#![tactic(auto)]
+
 ghost use Rattle.std.specs.Prelude.{◌≡◌, ◌+◌, ◌-◌, ◌*◌, ◌<◌, ◌≤◌, ltb, drop};
 ghost use Rattle.numeral.specs.Digit.{numeral, base, digit_to};
 ghost use Rattle.numeral.specs.Scan.{scan, scan_hex, scan_number, scanned, closed};

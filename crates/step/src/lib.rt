@@ -1,4 +1,6 @@
 // One instruction of a run: its questions, then its effect on registers and memory, or the exit that a block's last takes.
+#![tactic(auto)]
+
 ghost use Rattle.std.specs.Prelude.{◌≡◌, List, ℕ, suc, ◌<◌, ltb, set};
 ghost use Rattle.model.specs.Question.{pick};
 ghost use Rattle.model.specs.Word.{sum, signed, moved};

@@ -18,8 +18,8 @@ loop-i-preserved c =
     let at = next.before.before.loop-i in
     let steps : at.i < 7 = omega arith in (
       λ constants tested equal. ⊎_elim
-          (λ (t, e). least-lower _ 7 at.i at.x _ steps (next.lead-x.ensures.0 constants tested equal) at.least t.taken _ e)
-          (λ (t, e). least_kept _ 7 at.i at.x _ steps (next.lead-x.ensures.0 constants tested equal) at.least t.left _ e)
+          (λ w. least-lower _ 7 at.i at.x _ steps (next.lead-x.ensures.0 constants tested equal) at.least w.if-x-least.true _ w.least-is)
+          (λ w. least_kept _ 7 at.i at.x _ steps (next.lead-x.ensures.0 constants tested equal) at.least w.if-x-least.false _ w.least-is)
           c.if-x-least.branch-raw
           ∙ at.invariant.0 constants tested equal,
       ⊎_elim (λ w. omega arith) (λ w. omega arith) c.if-x-least.branch-raw,

@@ -11,98 +11,98 @@ use borrow.Author.Rules.{rules}
 use Rattle.numeral.proofs.digits.Statement.{statement}
 use Rattle.numeral.proofs.digits.Tie as tie
 
-abbrev invariant-loop : tie.invariant-loop
-invariant-loop bytes at from radix value₀ i₀ value i =
+abbrev invariant-loop-i : tie.invariant-loop-i
+invariant-loop-i bytes at from radix value₀ i₀ value i =
     (scan radix (from - at) 0 (from - at) (drop from bytes) ≡ scan radix (from - at) value (i - at) (drop i bytes)) × (from ≤ i) × (value < word_end)
 
-abbrev decreases-loop : tie.decreases-loop
-decreases-loop bytes at from radix value₀ i₀ value i = length bytes - i
+abbrev decreases-loop-i : tie.decreases-loop-i
+decreases-loop-i bytes at from radix value₀ i₀ value i = length bytes - i
 
 -- where a byte is read
-abbrev here : tie.After-numeral invariant-loop decreases-loop → tie.At-loop invariant-loop decreases-loop
+abbrev here : tie.After-numeral-d invariant-loop-i decreases-loop-i → tie.At-loop-i invariant-loop-i decreases-loop-i
 here c = c.before.before.before
 
-abbrev start : tie.At-loop invariant-loop decreases-loop → tie.Start invariant-loop decreases-loop
+abbrev start : tie.At-loop-i invariant-loop-i decreases-loop-i → tie.Start invariant-loop-i decreases-loop-i
 start c = c.before.before
 
 -- one more digit cannot wrap
-most : (n : tie.After-numeral invariant-loop decreases-loop) → let l = here n in l.loop.value * (start l).args.radix ≤ 4294967295 * 16
-most n = let l = here n in digit-most _ _ l.loop.inv.2 (start l).pre.1
+most : (n : tie.After-numeral-d invariant-loop-i decreases-loop-i) → let l = here n in l.loop-i.value * (start l).args.radix ≤ 4294967295 * 16
+most n = let l = here n in digit-most _ _ l.loop-i.invariant.2 (start l).requires.1
 
-loop-holds : tie.Need-loop-init invariant-loop decreases-loop
-loop-holds c = (refl, omega arith, omega arith)
+loop-i-init : tie.Need-loop-i-init invariant-loop-i decreases-loop-i
+loop-i-init c = (refl, omega arith, omega arith)
 
-shared-slice-read-byte : tie.Need-shared-slice-read-byte invariant-loop decreases-loop
-shared-slice-read-byte c = omega arith
+bounds-bytes-i : tie.Need-bounds-bytes-i invariant-loop-i decreases-loop-i
+bounds-bytes-i c = omega arith
 
-numeral-requires : tie.Need-numeral-requires invariant-loop decreases-loop
-numeral-requires c κs = search rules
+numeral-d-requires : tie.Need-numeral-d-requires invariant-loop-i decreases-loop-i
+numeral-d-requires c κs = search rules
 
-closed-requires : tie.Need-closed-requires invariant-loop decreases-loop
-closed-requires c κs = let l = here c.before in ((start l).pre.0, l.loop.inv.1, omega arith)
+closed-requires : tie.Need-closed-requires invariant-loop-i decreases-loop-i
+closed-requires c κs = let l = here c.before in ((start l).requires.0, l.loop-i.invariant.1, omega arith)
 
-returns : tie.Need-returns invariant-loop decreases-loop
-returns c =
+returns-then-radix-d : tie.Need-returns-then-radix-d invariant-loop-i decreases-loop-i
+returns-then-radix-d c =
     let n = c.before.before in
-    let l = (here n).loop in
-    c.closed.ensures ∙ sym (l.inv.0 ∙ scan-closed _ _ _ l.i l.value _ _ _ (omega arith) refl n.numeral.ensures c.before.if1.true)
+    let l = (here n).loop-i in
+    c.closed.ensures ∙ sym (l.invariant.0 ∙ scan-closed _ _ _ l.i l.value _ _ _ (omega arith) refl n.numeral-d.ensures c.before.if-radix-d.true)
 
-mul-value : tie.Need-overflow-mul-value invariant-loop decreases-loop
-mul-value c = omega (arith, most c.before)
+overflow_mul-value : tie.Need-overflow_mul-value invariant-loop-i decreases-loop-i
+overflow_mul-value c = omega (arith, most c.before)
 
-add-value : tie.Need-overflow-add-value invariant-loop decreases-loop
-add-value c = omega (arith, most c.before)
+overflow_add-value : tie.Need-overflow_add-value invariant-loop-i decreases-loop-i
+overflow_add-value c = omega (arith, most c.before)
 
-not-found-requires : tie.Need-not-found-requires invariant-loop decreases-loop
-not-found-requires c κs = search rules
+not_found-requires : tie.Need-not_found-requires invariant-loop-i decreases-loop-i
+not_found-requires c κs = search rules
 
-returns-2 : tie.Need-returns-2 invariant-loop decreases-loop
-returns-2 c =
+returns-then-value-gt-WORD_MOST : tie.Need-returns-then-value-gt-WORD_MOST invariant-loop-i decreases-loop-i
+returns-then-value-gt-WORD_MOST c =
     let n = c.before.before.before in
-    let l = (here n).loop in
+    let l = (here n).loop-i in
     c.not_found.ensures
-    ∙ sym (l.inv.0 ∙ scan-large _ _ _ l.i l.value _ _ _ (omega arith) refl n.numeral.ensures _ (omega arith) refl c.before.if2.true)
+    ∙ sym (l.invariant.0 ∙ scan-large _ _ _ l.i l.value _ _ _ (omega arith) refl n.numeral-d.ensures _ (omega arith) refl c.before.if-value-gt-WORD_MOST.true)
 
-add-i : tie.Need-overflow-add-i invariant-loop decreases-loop
-add-i c = omega arith
+overflow_add-i : tie.Need-overflow_add-i invariant-loop-i decreases-loop-i
+overflow_add-i c = omega arith
 
-loop-less : tie.Need-loop-smaller invariant-loop decreases-loop
-loop-less c = omega arith
+loop-i-smaller : tie.Need-loop-i-smaller invariant-loop-i decreases-loop-i
+loop-i-smaller c = omega arith
 
-loop-again : tie.Need-loop-preserved invariant-loop decreases-loop
-loop-again c =
+loop-i-preserved : tie.Need-loop-i-preserved invariant-loop-i decreases-loop-i
+loop-i-preserved c =
     let n = c.before.before in
-    let l = (here n).loop in (
-      l.inv.0 ∙ scan-on _ _ _ l.i l.value _ _ _ (omega arith) refl n.numeral.ensures _ _ (omega arith) refl (omega arith) (omega arith),
+    let l = (here n).loop-i in (
+      l.invariant.0 ∙ scan-on _ _ _ l.i l.value _ _ _ (omega arith) refl n.numeral-d.ensures _ _ (omega arith) refl (omega arith) (omega arith),
       omega arith,
       omega arith,
     )
 
-not-found-requires-2 : tie.Need-not-found-requires-2 invariant-loop decreases-loop
-not-found-requires-2 c κs = search rules
+not_found-requires-2 : tie.Need-not_found-requires-2 invariant-loop-i decreases-loop-i
+not_found-requires-2 c κs = search rules
 
-returns-3 : tie.Need-returns-3 invariant-loop decreases-loop
-returns-3 c =
-    let l = c.before.before.loop in
-    c.not-found2.ensures ∙ sym (l.invariant.0 ∙ scan-end _ _ _ l.i l.value _ c.before.loop-test.false)
+returns : tie.Need-returns invariant-loop-i decreases-loop-i
+returns c =
+    let l = c.before.before.loop-i in
+    c.not_found-2.ensures ∙ sym (l.invariant.0 ∙ scan-end _ _ _ l.i l.value _ c.before.loop-i-test.false)
 
 pub digits_spec : {M : Type 1} → statement M
 digits_spec =
     tie.close
     (tie.spec
-    invariant-loop
-    decreases-loop
-    loop-holds
-    shared-slice-read-byte
-    numeral-requires
+    invariant-loop-i
+    decreases-loop-i
+    loop-i-init
+    bounds-bytes-i
+    numeral-d-requires
     closed-requires
-    returns
-    mul-value
-    add-value
-    not-found-requires
-    returns-2
-    add-i
-    loop-less
-    loop-again
-    not-found-requires-2
-    returns-3)
+    returns-then-radix-d
+    overflow_mul-value
+    overflow_add-value
+    not_found-requires
+    returns-then-value-gt-WORD_MOST
+    overflow_add-i
+    loop-i-smaller
+    loop-i-preserved
+    not_found-requires-2
+    returns)

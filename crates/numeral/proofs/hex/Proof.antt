@@ -9,80 +9,80 @@ use Rattle.numeral.proofs.hex.Statement.{statement}
 use Rattle.numeral.proofs.hex.Tie as tie
 
 -- where there are two bytes
-abbrev start : tie.Else2 → tie.Start
+abbrev start : tie.Else-bytes-second → tie.Start
 start c = c.before.before.before
 
-room : (c : tie.Else2) → let s = (start c).args in s.at + 1 < length s.bytes.now
+room : (c : tie.Else-bytes-second) → let s = (start c).args in s.at + 1 < length s.bytes.now
 room c = omega arith
 
-not-found-requires : tie.Need-not-found-requires
-not-found-requires c κs = search rules
+not_found-requires : tie.Need-not_found-requires
+not_found-requires c κs = search rules
 
-returns : tie.Need-returns
-returns c = c.not_found.ensures ∙ sym (hex-end _ _ c.before.if1.true)
+returns-then-bytes-at : tie.Need-returns-then-bytes-at
+returns-then-bytes-at c = c.not_found.ensures ∙ sym (hex-end _ _ c.before.if-bytes-at.true)
 
-add-second : tie.Need-overflow-add-second
-add-second c = search rules
+overflow_add-second : tie.Need-overflow_add-second
+overflow_add-second c = search rules
 
-not-found-requires-2 : tie.Need-not-found-requires-2
-not-found-requires-2 c κs = search rules
+not_found-requires-then-bytes-second : tie.Need-not_found-requires-then-bytes-second
+not_found-requires-then-bytes-second c κs = search rules
 
-returns-2 : tie.Need-returns-2
-returns-2 c = c.not-found2.ensures ∙ sym (hex-short _ _ (omega arith) c.before.if2.true)
+returns-then-bytes-second : tie.Need-returns-then-bytes-second
+returns-then-bytes-second c = c.not_found-then-bytes-second.ensures ∙ sym (hex-short _ _ (omega arith) c.before.if-bytes-second.true)
 
-shared-slice-read-zero : tie.Need-shared-slice-read-zero
-shared-slice-read-zero c = search rules
+bounds-bytes-at : tie.Need-bounds-bytes-at
+bounds-bytes-at c = search rules
 
-not-found-requires-3 : tie.Need-not-found-requires-3
-not-found-requires-3 c κs = search rules
+not_found-requires-then-zero-ne48 : tie.Need-not_found-requires-then-zero-ne48
+not_found-requires-then-zero-ne48 c κs = search rules
 
-returns-3 : tie.Need-returns-3
-returns-3 c =
+returns-then-zero-ne48 : tie.Need-returns-then-zero-ne48
+returns-then-zero-ne48 c =
     let e = c.before.before.before in
     let s = (start e).args in
-    c.not-found3.ensures ∙ sym (hex-first s.bytes.now s.at (room e) c.before.if3.true)
+    c.not_found-then-zero-ne48.ensures ∙ sym (hex-first s.bytes.now s.at (room e) c.before.if-zero-ne48.true)
 
-shared-slice-read-mark : tie.Need-shared-slice-read-mark
-shared-slice-read-mark c = search rules
+bounds-bytes-second : tie.Need-bounds-bytes-second
+bounds-bytes-second c = search rules
 
-not-found-requires-4 : tie.Need-not-found-requires-4
-not-found-requires-4 c κs = search rules
+not_found-requires-then-mark-ne120 : tie.Need-not_found-requires-then-mark-ne120
+not_found-requires-then-mark-ne120 c κs = search rules
 
-returns-4 : tie.Need-returns-4
-returns-4 c =
+returns-then-mark-ne120 : tie.Need-returns-then-mark-ne120
+returns-then-mark-ne120 c =
     let t = c.before.before.before in
     let e = t.before.before in
     let s = (start e).args in
-    c.not-found4.ensures ∙ sym (hex-second s.bytes.now s.at (room e) t.if3.false c.before.if4.true)
+    c.not_found-then-mark-ne120.ensures ∙ sym (hex-second s.bytes.now s.at (room e) t.if-zero-ne48.false c.before.if-mark-ne120.true)
 
-add-from : tie.Need-overflow-add-from
-add-from c = search rules
+overflow_add-from : tie.Need-overflow_add-from
+overflow_add-from c = search rules
 
 digits-requires : tie.Need-digits-requires
 digits-requires c κs = search rules
 
-returns-5 : tie.Need-returns-5
-returns-5 c =
+returns : tie.Need-returns
+returns c =
     let t = c.before.before.before in
     let e = t.before.before in
     let s = (start e).args in
-    hex-both s.bytes.now s.at (room e) _ _ _ refl t.if3.false c.before.if4.false c.digits.ensures
+    hex-both s.bytes.now s.at (room e) _ _ _ refl t.if-zero-ne48.false c.before.if-mark-ne120.false c.digits.ensures
 
 pub hex_spec : {M : Type 1} → statement M
 hex_spec =
     tie.close
     (tie.spec
-    not-found-requires
-    returns
-    add-second
-    not-found-requires-2
-    returns-2
-    shared-slice-read-zero
-    not-found-requires-3
-    returns-3
-    shared-slice-read-mark
-    not-found-requires-4
-    returns-4
-    add-from
+    not_found-requires
+    returns-then-bytes-at
+    overflow_add-second
+    not_found-requires-then-bytes-second
+    returns-then-bytes-second
+    bounds-bytes-at
+    not_found-requires-then-zero-ne48
+    returns-then-zero-ne48
+    bounds-bytes-second
+    not_found-requires-then-mark-ne120
+    returns-then-mark-ne120
+    overflow_add-from
     digits-requires
-    returns-5)
+    returns)

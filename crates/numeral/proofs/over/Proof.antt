@@ -7,23 +7,23 @@ use Rattle.numeral.proofs.over.Statement.{statement}
 use Rattle.numeral.proofs.over.Tie as tie
 
 -- the product is at most the most
-small : (c : tie.Else1) → c.before.args.value * c.before.args.base ≤ c.before.args.most
-small c = times-most _ _ _ c.before.requires c.if1.false
+small : (c : tie.Else-most-base) → c.before.args.value * c.before.args.base ≤ c.before.args.most
+small c = times-most _ _ _ c.before.requires c.if-most-base.false
 
-div-if1 : tie.Need-nonzero-div-if1
-div-if1 c = search rules
+nonzero_div-most : tie.Need-nonzero_div-most
+nonzero_div-most c = search rules
+
+returns-then-most-base : tie.Need-returns-then-most-base
+returns-then-most-base c = times-over _ _ _ _ c.before.requires c.if-most-base.true
+
+overflow_mul-result : tie.Need-overflow_mul-result
+overflow_mul-result c = omega (arith, small c)
+
+overflow_sub-result : tie.Need-overflow_sub-result
+overflow_sub-result c = small c
 
 returns : tie.Need-returns
-returns c = times-over _ _ _ _ c.before.requires c.if1.true
-
-mul-result : tie.Need-overflow-mul-result
-mul-result c = omega (arith, small c)
-
-sub-result : tie.Need-overflow-sub-result
-sub-result c = small c
-
-returns-2 : tie.Need-returns-2
-returns-2 c = plus-over _ _ _ (small c)
+returns c = plus-over _ _ _ (small c)
 
 pub over_spec : {M : Type 1} → statement M
-over_spec = tie.close (tie.spec div-if1 returns mul-result sub-result returns-2)
+over_spec = tie.close (tie.spec nonzero_div-most returns-then-most-base overflow_mul-result overflow_sub-result returns)

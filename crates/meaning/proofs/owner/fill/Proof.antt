@@ -9,100 +9,100 @@ use Rattle.meaning.proofs.Owners.{LaidFrom, laid_none, laid-row, laid-all, row-c
 use Rattle.meaning.proofs.owner.fill.Statement.{statement}
 use Rattle.meaning.proofs.owner.fill.Tie as tie
 
-abbrev invariant-loop : tie.invariant-loop
-invariant-loop types allocations owners₀ k₀ owners k = LaidFrom (λ t. head_of types t) allocations owners₀ owners k
+abbrev invariant-loop-k : tie.invariant-loop-k
+invariant-loop-k types allocations owners₀ k₀ owners k = LaidFrom (λ t. head_of types t) allocations owners₀ owners k
 
-abbrev decreases-loop : tie.decreases-loop
-decreases-loop types allocations owners₀ k₀ owners k = k
+abbrev decreases-loop-k : tie.decreases-loop-k
+decreases-loop-k types allocations owners₀ k₀ owners k = k
 
 -- ---- where the row at hand has been read: the loop it stands in, and the row
 
-abbrev start : tie.At-loop invariant-loop decreases-loop → tie.Start invariant-loop decreases-loop
+abbrev start : tie.At-loop-k invariant-loop-k decreases-loop-k → tie.Start invariant-loop-k decreases-loop-k
 start c = c.before.before.before
 
-abbrev round : tie.After-record-type invariant-loop decreases-loop → tie.At-loop invariant-loop decreases-loop
+abbrev round : tie.After-record_type-t invariant-loop-k decreases-loop-k → tie.At-loop-k invariant-loop-k decreases-loop-k
 round c = c.before.before.before
 
-abbrev allocations : tie.After-record-type invariant-loop decreases-loop → List ℕ
+abbrev allocations : tie.After-record_type-t invariant-loop-k decreases-loop-k → List ℕ
 allocations c = (start (round c)).args.allocations.now
 
-abbrev types : tie.After-record-type invariant-loop decreases-loop → List ℕ
+abbrev types : tie.After-record_type-t invariant-loop-k decreases-loop-k → List ℕ
 types c = (start (round c)).args.types.now
 
-row : (c : tie.After-record-type invariant-loop decreases-loop)
-    → RowAt (allocations c) ((round c).loop.k - 1) c.before.start.result c.record-type.result
-row c = record { whole = omega (arith, (start (round c)).pre.even); start = c.before.start.ensures; typed = c.record-type.ensures }
+row : (c : tie.After-record_type-t invariant-loop-k decreases-loop-k)
+    → RowAt (allocations c) ((round c).loop-k.k - 1) c.before.start-p.result c.record_type-t.result
+row c = record { whole = omega (arith, (start (round c)).requires.even); start = c.before.start-p.ensures; typed = c.record_type-t.ensures }
 
-placed : (c : tie.After-record-type invariant-loop decreases-loop) → RowCanBeLaid (types c) c.before.start.result c.record-type.result
-placed c = row-can-be-laid (start (round c)).pre (row c)
+placed : (c : tie.After-record_type-t invariant-loop-k decreases-loop-k) → RowCanBeLaid (types c) c.before.start-p.result c.record_type-t.result
+placed c = row-can-be-laid (start (round c)).requires (row c)
 
 -- where its entry is made
-abbrev read : tie.After-entry-arg invariant-loop decreases-loop → tie.After-record-type invariant-loop decreases-loop
+abbrev read : tie.After-entry-arg invariant-loop-k decreases-loop-k → tie.After-record_type-t invariant-loop-k decreases-loop-k
 read c = c.before.before
 
 -- ---- the needs
 
-loop-holds : tie.Need-loop-init invariant-loop decreases-loop
-loop-holds c = laid_none _ _ _ c.before.before.requires.even
+loop-k-init : tie.Need-loop-k-init invariant-loop-k decreases-loop-k
+loop-k-init c = laid_none _ _ _ c.before.before.requires.even
 
-sub-k : tie.Need-overflow-sub-k invariant-loop decreases-loop
-sub-k c = omega arith
+overflow_sub-k : tie.Need-overflow_sub-k invariant-loop-k decreases-loop-k
+overflow_sub-k c = omega arith
 
-start-requires : tie.Need-start-requires invariant-loop decreases-loop
-start-requires c κs = omega (arith, (start c.before).pre.even)
+start-p-requires : tie.Need-start-p-requires invariant-loop-k decreases-loop-k
+start-p-requires c κs = omega (arith, (start c.before).requires.even)
 
-record-type-requires : tie.Need-record-type-requires invariant-loop decreases-loop
-record-type-requires c κs = omega (arith, (start c.before.before).pre.even)
+record_type-t-requires : tie.Need-record_type-t-requires invariant-loop-k decreases-loop-k
+record_type-t-requires c κs = omega (arith, (start c.before.before).requires.even)
 
-cast-head : tie.Need-overflow-cast-head invariant-loop decreases-loop
-cast-head c = omega arith
+overflow_cast-t : tie.Need-overflow_cast-t invariant-loop-k decreases-loop-k
+overflow_cast-t c = omega arith
 
-head-requires : tie.Need-head-requires invariant-loop decreases-loop
-head-requires c κs = omega (arith, placed c)
+head-n-requires : tie.Need-head-n-requires invariant-loop-k decreases-loop-k
+head-n-requires c κs = omega (arith, placed c)
 
-add-entry : tie.Need-overflow-add-entry invariant-loop decreases-loop
-add-entry c = omega (arith, c.before.head.ensures, placed (read c))
+overflow_add-p : tie.Need-overflow_add-p invariant-loop-k decreases-loop-k
+overflow_add-p c = omega (arith, c.before.head-n.ensures, placed (read c))
 
-entry-requires : tie.Need-entry-requires invariant-loop decreases-loop
-entry-requires c κs = omega (arith, c.before.head.ensures, (start (round (read c))).pre.few, placed (read c))
+entry-own-requires : tie.Need-entry-own-requires invariant-loop-k decreases-loop-k
+entry-own-requires c κs = omega (arith, c.before.head-n.ensures, (start (round (read c))).requires.few, placed (read c))
 
-cast-owners : tie.Need-overflow-cast-owners invariant-loop decreases-loop
-cast-owners c = omega (arith, placed (read c.before))
+overflow_cast-owners : tie.Need-overflow_cast-owners invariant-loop-k decreases-loop-k
+overflow_cast-owners c = omega (arith, placed (read c.before))
 
-mul-owners : tie.Need-overflow-mul-owners invariant-loop decreases-loop
-mul-owners c = omega (arith, placed (read c.before))
+offset_bounds-owners-p : tie.Need-offset_bounds-owners-p invariant-loop-k decreases-loop-k
+offset_bounds-owners-p c = omega (arith, placed (read c.before))
 
-element-write-owners : tie.Need-element-write-owners invariant-loop decreases-loop
-element-write-owners c = omega (arith, placed (read c.before))
+bounds-owners-p : tie.Need-bounds-owners-p invariant-loop-k decreases-loop-k
+bounds-owners-p c = omega (arith, placed (read c.before))
 
-loop-less : tie.Need-loop-smaller invariant-loop decreases-loop
-loop-less c = omega arith
+loop-k-smaller : tie.Need-loop-k-smaller invariant-loop-k decreases-loop-k
+loop-k-smaller c = omega arith
 
-loop-again : tie.Need-loop-preserved invariant-loop decreases-loop
-loop-again c =
+loop-k-preserved : tie.Need-loop-k-preserved invariant-loop-k decreases-loop-k
+loop-k-preserved c =
     let r = read c.before in
-    laid-row (round r).loop.inv (row r) (omega arith) _ _ c.before.before.head.ensures c.entry.ensures
+    laid-row (round r).loop-k.invariant (row r) (omega arith) _ _ c.before.before.head-n.ensures c.entry-own.ensures
 
-returns : tie.Need-returns invariant-loop decreases-loop
-returns c = laid-all c.before.loop.invariant (omega arith)
+returns : tie.Need-returns invariant-loop-k decreases-loop-k
+returns c = laid-all c.before.loop-k.invariant (omega arith)
 
 pub fill_spec : {M : Type 1} → statement M
 fill_spec =
     tie.close
     (tie.spec
-    invariant-loop
-    decreases-loop
-    loop-holds
-    sub-k
-    start-requires
-    record-type-requires
-    cast-head
-    head-requires
-    add-entry
-    entry-requires
-    cast-owners
-    mul-owners
-    element-write-owners
-    loop-less
-    loop-again
+    invariant-loop-k
+    decreases-loop-k
+    loop-k-init
+    overflow_sub-k
+    start-p-requires
+    record_type-t-requires
+    overflow_cast-t
+    head-n-requires
+    overflow_add-p
+    entry-own-requires
+    overflow_cast-owners
+    offset_bounds-owners-p
+    bounds-owners-p
+    loop-k-smaller
+    loop-k-preserved
     returns)
