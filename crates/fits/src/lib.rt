@@ -1,5 +1,7 @@
 // Whether a value fits a type, and which record a value is a reference to. Everything here only reads. The argument test
 // is what a taken opcode 11 tells, as the number that known::test makes of it; 0 where nothing was tested.
+#![tactic(auto)]
+
 ghost use Rattle.std.specs.Prelude.{◌≡◌, List, ℕ, ◌≤◌, ◌<◌, length};
 ghost use Rattle.model.specs.Word.{kind_of};
 ghost use Rattle.model.specs.Table.{tables_of};

@@ -7,69 +7,69 @@ use Rattle.fits.proofs.fits_pointer.Statement.{statement}
 use Rattle.fits.proofs.fits_pointer.Tie as tie
 
 -- past the test of Ref: the start; and past the kind wanted: where the value is no Ref
-abbrev start : tie.After-is-ref → tie.Start
+abbrev start : tie.After-is_ref → tie.Start
 start c = c.before.before.before
 
-abbrev no_ref : tie.After-known-zero → tie.Else1
+abbrev no_ref : tie.After-known_zero → tie.Else-is_ref
 no_ref c = c.before.before.before
 
-record-type-requires : tie.Need-record-type-requires
-record-type-requires c κs = search rules
+record_type-t-requires : tie.Need-record_type-t-requires
+record_type-t-requires c κs = search rules
 
-is-ref-requires : tie.Need-is-ref-requires
-is-ref-requires c κs = search rules
+is_ref-requires : tie.Need-is_ref-requires
+is_ref-requires c κs = search rules
 
-returns : tie.Need-returns
-returns c =
+returns-then-is_ref : tie.Need-returns-then-is_ref
+returns-then-is_ref c =
     let ref = c.before in
     let s = start ref in
-    λ types tested equal paired. fits-is-ref _ _ _ s.args.w s.args.names.now _ refl _ ref.before.record-type.ensures.0 (omega arith)
-    (omega arith) (sym (ref.is-ref.ensures types tested equal paired) ∙ c.if1.true)
+    λ types tested equal paired. fits-is-ref _ _ _ s.args.w s.args.names.now _ refl _ ref.before.record_type-t.ensures.0 (omega arith)
+    (omega arith) (sym (ref.is_ref.ensures types tested equal paired) ∙ c.if-is_ref.true)
 
 kind-requires : tie.Need-kind-requires
 kind-requires c κs = search rules
 
-returns-2 : tie.Need-returns-2
-returns-2 c =
+returns-then-kind-eq-REF : tie.Need-returns-then-kind-eq-REF
+returns-then-kind-eq-REF c =
     let no = c.before.before in
     let ref = no.before in
-    λ types tested equal paired. fits-ref _ _ _ _ (start ref).args.names.now _ c.before.kind.ensures.0 _ ref.before.record-type.ensures.0
-    (sym (ref.is-ref.ensures types tested equal paired) ∙ no.if1.false) (omega arith)
+    λ types tested equal paired. fits-ref _ _ _ _ (start ref).args.names.now _ c.before.kind.ensures.0 _ ref.before.record_type-t.ensures.0
+    (sym (ref.is_ref.ensures types tested equal paired) ∙ no.if-is_ref.false) (omega arith)
 
-known-zero-requires : tie.Need-known-zero-requires
-known-zero-requires c κs = search rules
+known_zero-requires : tie.Need-known_zero-requires
+known_zero-requires c κs = search rules
 
-returns-3 : tie.Need-returns-3
-returns-3 c =
+returns-then-known_zero : tie.Need-returns-then-known_zero
+returns-then-known_zero c =
     let zero = c.before in
     let no = no_ref zero in
     let ref = no.before in
     λ types tested equal paired. fits-zero _ _ _ _ (start ref).args.names.now _ zero.before.before.kind.ensures.0 _
-    ref.before.record-type.ensures.0 (sym (ref.is-ref.ensures types tested equal paired) ∙ no.if1.left) (omega arith)
-    (sym (zero.known-zero.ensures types _ tested equal paired) ∙ c.if3.true)
+    ref.before.record_type-t.ensures.0 (sym (ref.is_ref.ensures types tested equal paired) ∙ no.if-is_ref.false) (omega arith)
+    (sym (zero.known_zero.ensures types _ tested equal paired) ∙ c.if-known_zero.true)
 
-is-maybe-requires : tie.Need-is-maybe-requires
-is-maybe-requires c κs = search rules
+is_maybe-requires : tie.Need-is_maybe-requires
+is_maybe-requires c κs = search rules
 
-returns-4 : tie.Need-returns-4
-returns-4 c =
+returns : tie.Need-returns
+returns c =
     let zero = c.before.before in
     let no = no_ref zero in
     let ref = no.before in
     λ types tested equal paired. fits-maybe _ _ _ _ (start ref).args.names.now _ zero.before.before.kind.ensures.0 _
-    ref.before.record-type.ensures.0 (sym (ref.is-ref.ensures types tested equal paired) ∙ no.if1.left) (omega arith)
-    (sym (zero.known-zero.ensures types _ tested equal paired) ∙ c.before.if3.false) _ (c.is-maybe.ensures types tested equal paired)
+    ref.before.record_type-t.ensures.0 (sym (ref.is_ref.ensures types tested equal paired) ∙ no.if-is_ref.false) (omega arith)
+    (sym (zero.known_zero.ensures types _ tested equal paired) ∙ c.before.if-known_zero.false) _ (c.is_maybe.ensures types tested equal paired)
 
 pub fits_pointer_spec : {M : Type 1} → statement M
 fits_pointer_spec =
     tie.close
     (tie.spec
-    record-type-requires
-    is-ref-requires
-    returns
+    record_type-t-requires
+    is_ref-requires
+    returns-then-is_ref
     kind-requires
-    returns-2
-    known-zero-requires
-    returns-3
-    is-maybe-requires
-    returns-4)
+    returns-then-kind-eq-REF
+    known_zero-requires
+    returns-then-known_zero
+    is_maybe-requires
+    returns)

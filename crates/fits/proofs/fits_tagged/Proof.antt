@@ -9,63 +9,63 @@ use Rattle.fits.proofs.fits_tagged.Statement.{statement}
 use Rattle.fits.proofs.fits_tagged.Tie as tie
 
 -- past the byte of the dependency wanted: the names it is read with
-abbrev names : tie.After-first-dependency → List ℕ
+abbrev names : tie.After-first_dependency → List ℕ
 names c = c.before.before.args.names.now
 
 -- past the tag, which does not fit
-abbrev kind : tie.Else1 → tie.After-kind
+abbrev kind : tie.Else-tag_fits → tie.After-kind-present
 kind c = c.before.before
 
-first-dependency-requires : tie.Need-first-dependency-requires
-first-dependency-requires c κs = search rules
+first_dependency-requires : tie.Need-first_dependency-requires
+first_dependency-requires c κs = search rules
 
-named-requires : tie.Need-named-requires
-named-requires c κs = search rules
+named-y-requires : tie.Need-named-y-requires
+named-y-requires c κs = search rules
 
-kind-requires : tie.Need-kind-requires
-kind-requires c κs = search rules
+kind-present-requires : tie.Need-kind-present-requires
+kind-present-requires c κs = search rules
 
-tag-fits-requires : tie.Need-tag-fits-requires
-tag-fits-requires c κs = search rules
+tag_fits-requires : tie.Need-tag_fits-requires
+tag_fits-requires c κs = search rules
 
-returns : tie.Need-returns
-returns c =
+returns-then-tag_fits : tie.Need-returns-then-tag_fits
+returns-then-tag_fits c =
     let k = c.before.before in
     let y = k.before in
     let byte = y.before in
-    λ types tested equal paired. fits-tag _ _ _ _ (names byte) _ k.kind.ensures.0 _ _ byte.first-dependency.ensures.0
-    y.named.ensures (omega arith) (omega arith) (sym (c.before.tag-fits.ensures types tested equal paired) ∙ c.if1.true)
+    λ types tested equal paired. fits-tag _ _ _ _ (names byte) _ k.kind-present.ensures.0 _ _ byte.first_dependency.ensures.0
+    y.named-y.ensures (omega arith) (omega arith) (sym (c.before.tag_fits.ensures types tested equal paired) ∙ c.if-tag_fits.true)
 
-returns-2 : tie.Need-returns-2
-returns-2 c =
+returns-then-present : tie.Need-returns-then-present
+returns-then-present c =
     let past = c.before in
     let y = (kind past).before in
     let byte = y.before in
-    λ types tested equal paired. fits-present _ _ _ _ (names byte) _ (kind past).kind.ensures.0 _ _ byte.first-dependency.ensures.0 y.named.ensures
-    (omega arith) (omega arith) (sym (past.before.tag-fits.ensures types tested equal paired) ∙ past.if1.false) c.if2.true
+    λ types tested equal paired. fits-present _ _ _ _ (names byte) _ (kind past).kind-present.ensures.0 _ _ byte.first_dependency.ensures.0 y.named-y.ensures
+    (omega arith) (omega arith) (sym (past.before.tag_fits.ensures types tested equal paired) ∙ past.if-tag_fits.false) c.if-present.true-raw
 
-known-zero-requires : tie.Need-known-zero-requires
-known-zero-requires c κs = search rules
+known_zero-requires : tie.Need-known_zero-requires
+known_zero-requires c κs = search rules
 
-returns-3 : tie.Need-returns-3
-returns-3 c =
+returns : tie.Need-returns
+returns c =
     let zero = c.before in
     let past = zero.before in
     let y = (kind past).before in
     let byte = y.before in
-    λ types tested equal paired. fits-tagged _ _ _ _ (names byte) _ (kind past).kind.ensures.0 _ _ byte.first-dependency.ensures.0 y.named.ensures
-    (omega arith) (omega arith) (sym (past.before.tag-fits.ensures types tested equal paired) ∙ past.if1.false) zero.if2.false _
-    (c.known-zero.ensures types _ tested equal paired)
+    λ types tested equal paired. fits-tagged _ _ _ _ (names byte) _ (kind past).kind-present.ensures.0 _ _ byte.first_dependency.ensures.0 y.named-y.ensures
+    (omega arith) (omega arith) (sym (past.before.tag_fits.ensures types tested equal paired) ∙ past.if-tag_fits.false) zero.if-present.false-raw _
+    (c.known_zero.ensures types _ tested equal paired)
 
 pub fits_tagged_spec : {M : Type 1} → statement M
 fits_tagged_spec =
     tie.close
     (tie.spec
-    first-dependency-requires
-    named-requires
-    kind-requires
-    tag-fits-requires
-    returns
-    returns-2
-    known-zero-requires
-    returns-3)
+    first_dependency-requires
+    named-y-requires
+    kind-present-requires
+    tag_fits-requires
+    returns-then-tag_fits
+    returns-then-present
+    known_zero-requires
+    returns)

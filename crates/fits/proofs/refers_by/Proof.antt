@@ -6,59 +6,59 @@ use Rattle.fits.proofs.refers_by.Statement.{statement}
 use Rattle.fits.proofs.refers_by.Tie as tie
 
 -- past the kind of the value, from where it is Present
-abbrev kind : tie.Else3 → tie.After-kind
+abbrev kind : tie.Else-kind-ne-PRESENT → tie.After-kind-kind
 kind c = c.before.before.before
 
-mul-w : tie.Need-overflow-mul-w
-mul-w c = search rules
+offset_bounds-words-v : tie.Need-offset_bounds-words-v
+offset_bounds-words-v c = search rules
 
-element-copy-out-w : tie.Need-element-copy-out-w
-element-copy-out-w c = search rules
+bounds-words-v : tie.Need-bounds-words-v
+bounds-words-v c = search rules
 
-kind-requires : tie.Need-kind-requires
-kind-requires c κs = search rules
+kind-kind-requires : tie.Need-kind-kind-requires
+kind-kind-requires c κs = search rules
 
-record-type-requires : tie.Need-record-type-requires
-record-type-requires c κs = search rules
+record_type-requires : tie.Need-record_type-requires
+record_type-requires c κs = search rules
 
-returns : tie.Need-returns
-returns c = λ constants tested equal. refers-ref _ _ _ c.before.before.kind.ensures.0 _ c.record-type.ensures.0 (omega arith)
+returns-then-kind-eq-REF : tie.Need-returns-then-kind-eq-REF
+returns-then-kind-eq-REF c = λ constants tested equal. refers-ref _ _ _ c.before.before.kind-kind.ensures.0 _ c.record_type.ensures.0 (omega arith)
 
-record-type-requires-2 : tie.Need-record-type-requires-2
-record-type-requires-2 c κs = search rules
+record_type-requires-then-kind-eq-IN : tie.Need-record_type-requires-then-kind-eq-IN
+record_type-requires-then-kind-eq-IN c κs = search rules
 
-returns-2 : tie.Need-returns-2
-returns-2 c = λ constants tested equal. refers-in _ _ _ c.before.before.before.kind.ensures.0 _ c.record-type2.ensures.0 (omega arith)
+returns-then-kind-eq-IN : tie.Need-returns-then-kind-eq-IN
+returns-then-kind-eq-IN c = λ constants tested equal. refers-in _ _ _ c.before.before.before.kind-kind.ensures.0 _ c.record_type-then-kind-eq-IN.ensures.0 (omega arith)
 
-returns-3 : tie.Need-returns-3
-returns-3 c =
-    λ constants tested equal. refers-other _ _ _ c.before.before.before.kind.ensures.0 (λ h. omega arith) (λ h. omega arith)
+returns-then-kind-ne-PRESENT : tie.Need-returns-then-kind-ne-PRESENT
+returns-then-kind-ne-PRESENT c =
+    λ constants tested equal. refers-other _ _ _ c.before.before.before.kind-kind.ensures.0 (λ h. omega arith) (λ h. omega arith)
     (λ h. omega arith)
 
-first-dependency-requires : tie.Need-first-dependency-requires
-first-dependency-requires c κs = search rules
+first_dependency-requires : tie.Need-first_dependency-requires
+first_dependency-requires c κs = search rules
 
 dependency-requires : tie.Need-dependency-requires
 dependency-requires c κs = search rules
 
-returns-4 : tie.Need-returns-4
-returns-4 c =
+returns : tie.Need-returns
+returns c =
     let byte = c.before in
-    λ constants tested equal. refers-present _ _ _ (kind byte.before).kind.ensures.0 _ _ byte.first-dependency.ensures.0
+    λ constants tested equal. refers-present _ _ _ (kind byte.before).kind-kind.ensures.0 _ _ byte.first_dependency.ensures.0
     c.dependency.ensures (omega arith)
 
 pub refers_by_spec : {M : Type 1} → statement M
 refers_by_spec =
     tie.close
     (tie.spec
-    mul-w
-    element-copy-out-w
-    kind-requires
-    record-type-requires
-    returns
-    record-type-requires-2
-    returns-2
-    returns-3
-    first-dependency-requires
+    offset_bounds-words-v
+    bounds-words-v
+    kind-kind-requires
+    record_type-requires
+    returns-then-kind-eq-REF
+    record_type-requires-then-kind-eq-IN
+    returns-then-kind-eq-IN
+    returns-then-kind-ne-PRESENT
+    first_dependency-requires
     dependency-requires
-    returns-4)
+    returns)

@@ -7,80 +7,80 @@ use Rattle.fits.proofs.tag_fits.Statement.{statement}
 use Rattle.fits.proofs.tag_fits.Tie as tie
 
 -- past the kind of the value, from past each test of it
-abbrev kind_1 : tie.Then1 → tie.After-kind
+abbrev kind_1 : tie.Then-by_record → tie.After-kind-kind
 kind_1 c = c.before.before
 
-abbrev kind_2 : tie.Else1 → tie.After-kind
+abbrev kind_2 : tie.Else-by_record → tie.After-kind-kind
 kind_2 c = c.before.before
 
-abbrev past-1 : tie.Else2 → tie.Else1
+abbrev past-1 : tie.Else-not-by_own_tag → tie.Else-by_record
 past-1 c = c.before.before
 
-mul-own : tie.Need-overflow-mul-own
-mul-own c = search rules
+offset_bounds-words-v : tie.Need-offset_bounds-words-v
+offset_bounds-words-v c = search rules
 
-element-copy-out-own : tie.Need-element-copy-out-own
-element-copy-out-own c = search rules
+bounds-words-v : tie.Need-bounds-words-v
+bounds-words-v c = search rules
 
-kind-requires : tie.Need-kind-requires
-kind-requires c κs = search rules
+kind-kind-requires : tie.Need-kind-kind-requires
+kind-kind-requires c κs = search rules
 
-by-record-requires : tie.Need-by-record-requires
-by-record-requires c κs = search rules
+by_record-requires : tie.Need-by_record-requires
+by_record-requires c κs = search rules
 
-record-type-requires : tie.Need-record-type-requires
-record-type-requires c κs = search rules
+record_type-t-requires : tie.Need-record_type-t-requires
+record_type-t-requires c κs = search rules
 
-known-tag-requires : tie.Need-known-tag-requires
-known-tag-requires c κs = search rules
+known_tag-requires : tie.Need-known_tag-requires
+known_tag-requires c κs = search rules
+
+returns-then-by_record : tie.Need-returns-then-by_record
+returns-then-by_record c =
+    let past = c.before in
+    let test = past.before in
+    λ types tested equal paired. tag-of-record _ _ _ (kind_1 test).kind-kind.ensures.0 _ past.record_type-t.ensures.0 _ _ _
+    (sym test.before.by_record.ensures ∙ test.if-by_record.true) _ (c.known_tag.ensures types tested equal paired)
+
+by_own_tag-requires : tie.Need-by_own_tag-requires
+by_own_tag-requires c κs = search rules
+
+returns-then-not-by_own_tag : tie.Need-returns-then-not-by_own_tag
+returns-then-not-by_own_tag c =
+    let past = c.before.before in
+    λ types tested equal paired. tag-other _ _ _ (kind_2 past).kind-kind.ensures.0 _ _ _ (sym past.before.by_record.ensures ∙ past.if-by_record.false)
+    (test-false c.before.by_own_tag.ensures c.if-not-by_own_tag.true-raw)
+
+first_dependency-requires : tie.Need-first_dependency-requires
+first_dependency-requires c κs = search rules
+
+dependency-x-requires : tie.Need-dependency-x-requires
+dependency-x-requires c κs = search rules
+
+known_equal-requires : tie.Need-known_equal-requires
+known_equal-requires c κs = search rules
 
 returns : tie.Need-returns
 returns c =
-    let past = c.before in
-    let test = past.before in
-    λ types tested equal paired. tag-of-record _ _ _ (kind_1 test).kind.ensures.0 _ past.record-type.ensures.0 _ _ _
-    (sym test.before.by-record.ensures ∙ test.if1.true) _ (c.known-tag.ensures types tested equal paired)
-
-by-own-tag-requires : tie.Need-by-own-tag-requires
-by-own-tag-requires c κs = search rules
-
-returns-2 : tie.Need-returns-2
-returns-2 c =
-    let past = c.before.before in
-    λ types tested equal paired. tag-other _ _ _ (kind_2 past).kind.ensures.0 _ _ _ (sym past.before.by-record.ensures ∙ past.if1.false)
-    (test-false c.before.by-own-tag.ensures c.if2.true)
-
-first-dependency-requires : tie.Need-first-dependency-requires
-first-dependency-requires c κs = search rules
-
-dependency-requires : tie.Need-dependency-requires
-dependency-requires c κs = search rules
-
-known-equal-requires : tie.Need-known-equal-requires
-known-equal-requires c κs = search rules
-
-returns-3 : tie.Need-returns-3
-returns-3 c =
     let x = c.before in
     let byte = x.before in
     let test = byte.before in
-    λ types tested equal paired. tag-of-own _ _ _ (kind_2 (past-1 test)).kind.ensures.0 _ _ byte.first-dependency.ensures.0
-    x.dependency.ensures _ _ _ (test-true test.before.by-own-tag.ensures test.if2.false) _ (c.known-equal.ensures tested equal paired)
+    λ types tested equal paired. tag-of-own _ _ _ (kind_2 (past-1 test)).kind-kind.ensures.0 _ _ byte.first_dependency.ensures.0
+    x.dependency-x.ensures _ _ _ (test-true test.before.by_own_tag.ensures test.if-not-by_own_tag.false-raw) _ (c.known_equal.ensures tested equal paired)
 
 pub tag_fits_spec : {M : Type 1} → statement M
 tag_fits_spec =
     tie.close
     (tie.spec
-    mul-own
-    element-copy-out-own
-    kind-requires
-    by-record-requires
-    record-type-requires
-    known-tag-requires
-    returns
-    by-own-tag-requires
-    returns-2
-    first-dependency-requires
-    dependency-requires
-    known-equal-requires
-    returns-3)
+    offset_bounds-words-v
+    bounds-words-v
+    kind-kind-requires
+    by_record-requires
+    record_type-t-requires
+    known_tag-requires
+    returns-then-by_record
+    by_own_tag-requires
+    returns-then-not-by_own_tag
+    first_dependency-requires
+    dependency-x-requires
+    known_equal-requires
+    returns)
