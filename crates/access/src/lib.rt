@@ -21,7 +21,7 @@ pub const NO_BASE: u32 = 256;
 
 // What is left of a reading beside the arrays: the number of a no, the birthplace of the last close, the base of the open record, and how
 // many fit questions the block has put: at most 8 for each instruction before its last, so 256 at most.
-#[derive(Drop)]
+#[derive(Clone, Copy)]
 pub struct Progress {
     pub number: u32,
     pub since: u32,
@@ -30,7 +30,7 @@ pub struct Progress {
 }
 
 // An instruction before its block's end: its word, the birthplace of what it makes, and how far the reading is.
-#[derive(Drop)]
+#[derive(Clone, Copy)]
 pub struct Fetched {
     pub word: u32,
     pub g: usize,
@@ -95,7 +95,7 @@ pub fn size(types: &[u32], t: u32) -> u32
 // ---- loads and stores
 
 // A load to register a, or a store from it, at offset c of the record of type t behind the value v, at birthplace g.
-#[derive(Drop)]
+#[derive(Clone, Copy)]
 struct Transfer {
     loads: bool,
     a: usize,

@@ -18,7 +18,7 @@ use protocol::Line;
 
 // An answer that stands in the buffer: where it ends, what the table of words is to be asked of it, whether it has a count, and which, and for
 // how many blank annotations rows were chosen, and which.
-#[derive(Drop)]
+#[derive(Clone, Copy)]
 pub struct Given {
     pub held: usize,
     pub row: u32,
@@ -31,7 +31,7 @@ pub struct Given {
 }
 
 // How answers are written.
-#[derive(Drop)]
+#[derive(Clone, Copy)]
 pub struct Style {
     // with words after each
     pub worded: bool,
@@ -40,7 +40,7 @@ pub struct Style {
 }
 
 // A line that was answered: where the answer ends, and whether it is other than 0 and 40.
-#[derive(Drop)]
+#[derive(Clone, Copy)]
 pub struct Reply {
     pub held: usize,
     pub refused: bool,

@@ -16,7 +16,7 @@ pub const BLANK_WORD: u32 = 4294967295;
 pub const NO_BLOCK: usize = limit::BLOCKS;
 
 // A number for each of three blank blocks, the lowest block first.
-#[derive(Drop)]
+#[derive(Clone, Copy)]
 pub struct Three {
     pub first: usize,
     pub second: usize,
@@ -24,14 +24,14 @@ pub struct Three {
 }
 
 // The blank blocks of a routine, and a fourth, which is one too many.
-#[derive(Drop)]
+#[derive(Clone, Copy)]
 pub struct Blanks {
     pub three: Three,
     pub fourth: usize,
 }
 
 // Blank blocks, and the places in the offered list of the rows that they take.
-#[derive(Drop)]
+#[derive(Clone, Copy)]
 pub struct Filling {
     pub blanks: Three,
     pub places: Three,

@@ -19,7 +19,7 @@ use model::limit;
 use model::number::{OPEN_RECORD, PASSED, TAKEN_EDGE, UNTAKEN_EDGE};
 
 // What the end of a block comes to: the number of the first no, 0 where there is none, and how many fit questions were put.
-#[derive(Drop)]
+#[derive(Clone, Copy)]
 pub struct EndAnswer {
     pub number: u32,
     pub asked: u32,
@@ -122,7 +122,7 @@ fn not_below(words: &[u32; 256], frames: &[u8; 32], constants: &[u32; 32], v: u8
 
 // What the edges of a branch tell of v, the value that it tests: its type word on each, and on the taken one that a value equals a
 // constant, as the constant + 1. The constant is a byte.
-#[derive(Drop)]
+#[derive(Clone, Copy)]
 struct EdgeFacts {
     v: u8,
     taken: u32,

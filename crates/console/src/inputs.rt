@@ -18,7 +18,7 @@ pub const READ_FAILED: u32 = 2;
 // A write failed.
 pub const WRITE_FAILED: u32 = 3;
 
-#[derive(Drop)]
+#[derive(Clone, Copy)]
 pub struct Turn {
     pub place: Place,
     pub end: u32,
@@ -135,7 +135,7 @@ fn input(
 // ---- all inputs
 
 // How the inputs ended.
-#[derive(Drop)]
+#[derive(Clone, Copy)]
 pub struct Ended {
     pub refused: bool,
     pub failed: bool,
@@ -208,7 +208,7 @@ fn named(
 }
 
 // How far the arguments were gone through; after --, every argument is a name.
-#[derive(Drop)]
+#[derive(Clone, Copy)]
 pub struct Listed {
     pub ended: Ended,
     pub literal: bool,

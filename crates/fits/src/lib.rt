@@ -15,7 +15,7 @@ use model::Reference;
 // ---- fits
 
 // What makes a value a reference: its record type, where it is Ref or In; its dependency, where it is Present; or nothing.
-#[derive(Drop)]
+#[derive(Clone, Copy)]
 enum Referred {
     Record(u32),
     Tag(u32),

@@ -13,7 +13,7 @@ use step::Exit;
 // ---- a block
 
 // How a block was left, and the offset of its last instruction carried out or refused.
-#[derive(Drop)]
+#[derive(Clone, Copy)]
 struct Ended {
     exit: Exit,
     at: usize,

@@ -7,7 +7,7 @@ pub mod limit;
 pub mod number;
 
 // The number of the first question with a no, 0 where there is none, and its place.
-#[derive(Drop)]
+#[derive(Clone, Copy)]
 pub struct Verdict {
     pub number: u32,
     pub first: u32,
@@ -15,7 +15,7 @@ pub struct Verdict {
 }
 
 // What a check of a routine returns: its verdict, and how many fit questions were put.
-#[derive(Drop)]
+#[derive(Clone, Copy)]
 pub struct CheckAnswer {
     pub number: u32,
     pub first: u32,
@@ -25,7 +25,7 @@ pub struct CheckAnswer {
 
 // What a check returns that chooses rows for blank annotations: its verdict and count, and the place in the offered list of the row for each
 // blank block, the lowest block first.
-#[derive(Drop)]
+#[derive(Clone, Copy)]
 pub struct OfferedAnswer {
     pub number: u32,
     pub first: u32,
@@ -35,7 +35,7 @@ pub struct OfferedAnswer {
 }
 
 // What a run returns beside the memory that it leaves.
-#[derive(Drop)]
+#[derive(Clone, Copy)]
 pub struct RunAnswer {
     pub number: u32,
     pub block: u32,
@@ -45,7 +45,7 @@ pub struct RunAnswer {
 }
 
 // The record type that a value is a reference to.
-#[derive(Drop)]
+#[derive(Clone, Copy)]
 pub enum Reference {
     To(u32),
     Nothing,

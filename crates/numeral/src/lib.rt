@@ -73,7 +73,7 @@ pub fn over(most: u64, value: u64, base: u64, d: u64) -> bool
 
 // ---- a number in one piece
 
-#[derive(Drop)]
+#[derive(Clone, Copy)]
 pub struct Found {
     pub count: usize,
     pub value: u64,

@@ -31,7 +31,7 @@ pub fn fresh() -> Line
 
 // ---- ahead: words and numbers in one piece
 
-#[derive(Drop)]
+#[derive(Clone, Copy)]
 struct Ahead {
     line: Line,
     at: usize,

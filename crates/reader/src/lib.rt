@@ -13,7 +13,7 @@ use grammar::{
 // Letters from this number on could not be followed by one more.
 const LETTERS_END: u64 = 0x1000000000000;
 
-#[derive(Drop)]
+#[derive(Clone, Copy)]
 pub struct Line {
     pub phase: u32,
     // bytes read, and the byte at which a malformed line stopped

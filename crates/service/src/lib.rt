@@ -7,7 +7,7 @@ pub use lines::{HELD, fill, finish, held, start, written};
 
 // How far an input was read: the line that is being read, its number, whether some answer was other than 0 and 40, and the bytes of
 // answers that the buffer holds.
-#[derive(Drop)]
+#[derive(Clone, Copy)]
 pub struct Place {
     pub line: Line,
     pub count: u64,
@@ -16,7 +16,7 @@ pub struct Place {
 }
 
 // Bytes that were answered, up to a place among them.
-#[derive(Drop)]
+#[derive(Clone, Copy)]
 pub struct Filled {
     pub at: usize,
     pub place: Place,

@@ -12,7 +12,7 @@ ghost use Rattle.step.specs.Answer.{at, value_of, on_register, on_memory, does, 
 use model::{limit, number};
 
 // How a block is left: to a block, to the one after it, by a halt, or with the number of a question that had a no.
-#[derive(Drop)]
+#[derive(Clone, Copy)]
 pub enum Exit {
     To(u32),
     Following,
@@ -65,7 +65,7 @@ pub const WRITE: u32 = 2;
 // What an instruction does, known before memory is looked at: the number of the question that had a no, or 0; the access to memory and
 // its address; the one register that can change; and the word that goes there or into memory. Where no register changes, the word
 // is the register's own, so that every way puts a word into register a and no other is copied.
-#[derive(Drop)]
+#[derive(Clone, Copy)]
 pub struct Effect {
     pub number: u32,
     pub access: u32,
@@ -148,7 +148,7 @@ pub fn effect_of(rows: &[[u32; 2]; instruction::OPCODES], registers: &[u32; 8], 
 }
 
 // The number of the question that had a no, 0 where none had, and the word that goes into register a.
-#[derive(Drop)]
+#[derive(Clone, Copy)]
 struct Handed {
     number: u32,
     v: u32,
@@ -196,7 +196,7 @@ fn reached(memory: &mut [u32], e: Effect) -> Handed
 }
 
 // The number of the question that had a no, 0 where the instruction was carried out, and the registers after it.
-#[derive(Drop)]
+#[derive(Clone, Copy)]
 pub struct Stepped {
     pub number: u32,
     pub registers: [u32; 8],

@@ -213,7 +213,7 @@ fn left(out: &mut [u8; output::BUFFER], n: usize, c: RunAnswer, memory: &[u32]) 
 }
 
 // Both routines as they wait for their next turn, and the place in the output.
-#[derive(Drop)]
+#[derive(Clone, Copy)]
 struct Waiting {
     correction: RunAnswer,
     ranking: RunAnswer,

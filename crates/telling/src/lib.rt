@@ -19,7 +19,7 @@ pub const REMEDY: u32 = 3;
 pub const PLACE: u32 = 4;
 
 // How the letters A and B are written.
-#[derive(Drop)]
+#[derive(Clone, Copy)]
 pub struct Letters {
     // as the numbers answered
     pub answered: bool,
@@ -27,7 +27,7 @@ pub struct Letters {
     pub second: u64,
 }
 
-#[derive(Drop)]
+#[derive(Clone, Copy)]
 pub struct Asked {
     pub number: u32,
     // an answer in words, or else one column

@@ -15,7 +15,7 @@ pub const VERSION: u32 = 2;
 // An argument that is no option of the program; it was named on standard error.
 pub const NOTHING: u32 = 3;
 
-#[derive(Drop)]
+#[derive(Clone, Copy)]
 pub struct Asked {
     pub wish: u32,
     pub worded: bool,

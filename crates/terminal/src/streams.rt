@@ -12,7 +12,7 @@ fn again() -> bool {
     error == libc::EINTR
 }
 
-#[derive(Drop)]
+#[derive(Clone, Copy)]
 pub struct Got {
     // bytes at the start of the buffer; 0 at the end of the input
     pub count: usize,

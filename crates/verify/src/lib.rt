@@ -25,7 +25,7 @@ use table::answer;
 
 // Where the reading of a block has stopped: the number of a no, or 0 before its last instruction; the base of the open record; the
 // offset; how many fit questions were put.
-#[derive(Drop)]
+#[derive(Clone, Copy)]
 struct Stopped {
     number: u32,
     base: u32,

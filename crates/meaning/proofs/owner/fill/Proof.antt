@@ -37,8 +37,8 @@ placed : (c : tie.After-record_type-t invariant-loop-k decreases-loop-k) → Row
 placed c = row-can-be-laid (start (round c)).requires (row c)
 
 -- where its entry is made
-abbrev read : tie.After-entry-arg invariant-loop-k decreases-loop-k → tie.After-record_type-t invariant-loop-k decreases-loop-k
-read c = c.before.before
+abbrev read : tie.After-head-n invariant-loop-k decreases-loop-k → tie.After-record_type-t invariant-loop-k decreases-loop-k
+read c = c.before
 
 -- ---- the needs
 
@@ -61,27 +61,27 @@ head-n-requires : tie.Need-head-n-requires invariant-loop-k decreases-loop-k
 head-n-requires c κs = omega (arith, placed c)
 
 overflow_add-p : tie.Need-overflow_add-p invariant-loop-k decreases-loop-k
-overflow_add-p c = omega (arith, c.before.head-n.ensures, placed (read c))
+overflow_add-p c = omega (arith, c.head-n.ensures, placed (read c))
 
 entry-own-requires : tie.Need-entry-own-requires invariant-loop-k decreases-loop-k
-entry-own-requires c κs = omega (arith, c.before.head-n.ensures, (start (round (read c))).requires.few, placed (read c))
+entry-own-requires c κs = omega (arith, c.head-n.ensures, (start (round (read c))).requires.few, placed (read c))
 
 overflow_cast-owners : tie.Need-overflow_cast-owners invariant-loop-k decreases-loop-k
-overflow_cast-owners c = omega (arith, placed (read c.before))
+overflow_cast-owners c = omega (arith, placed (read c.before.before))
 
 offset_bounds-owners-p : tie.Need-offset_bounds-owners-p invariant-loop-k decreases-loop-k
-offset_bounds-owners-p c = omega (arith, placed (read c.before))
+offset_bounds-owners-p c = omega (arith, placed (read c.before.before))
 
 bounds-owners-p : tie.Need-bounds-owners-p invariant-loop-k decreases-loop-k
-bounds-owners-p c = omega (arith, placed (read c.before))
+bounds-owners-p c = omega (arith, placed (read c.before.before))
 
 loop-k-smaller : tie.Need-loop-k-smaller invariant-loop-k decreases-loop-k
 loop-k-smaller c = omega arith
 
 loop-k-preserved : tie.Need-loop-k-preserved invariant-loop-k decreases-loop-k
 loop-k-preserved c =
-    let r = read c.before in
-    laid-row (round r).loop-k.invariant (row r) (omega arith) _ _ c.before.before.head-n.ensures c.entry-own.ensures
+    let r = read c.before.before in
+    laid-row (round r).loop-k.invariant (row r) (omega arith) _ _ c.head-n.ensures c.entry-own.ensures
 
 returns : tie.Need-returns invariant-loop-k decreases-loop-k
 returns c = laid-all c.before.loop-k.invariant (omega arith)
