@@ -4,25 +4,22 @@ use Rattle.model.proofs.Lists.{set_own}
 use Rattle.step.proofs.carry_out.Statement.{statement}
 use Rattle.step.proofs.carry_out.Tie as tie
 
-reached-requires : tie.Need-reached-requires
-reached-requires c κs = search rules
+reached-d-requires : tie.Need-reached-d-requires
+reached-d-requires c κs = search rules
 
-with-requires : tie.Need-with-requires
-with-requires c κs = search rules
+with-next-requires : tie.Need-with-next-requires
+with-next-requires c κs = search rules
 
-same_length : tie.Need-same-length
-same_length c = search rules
+shape_of-memory : tie.Need-shape_of-memory
+shape_of-memory c = search rules
 
-abbrev start : tie.After-with → tie.Start
+abbrev start : tie.After-with-next → tie.Start
 start c = c.before.before.before.before.before.before
 
 returns : tie.Need-returns
 returns c =
-    let r = c.before.before.before.reached in
-    let a = (start c).args in (
-      rw c.with.ensures (λ b j f n. r.ensures b j f n _),
-      set_own a.registers _ a.e.a r.result.v c.with.ensures,
-    )
+    let r = c.before.before.before.reached-d in
+    let a = (start c).args in record { does = rw c.with-next.ensures (λ b j f n. r.ensures b j f n _); others = set_own a.registers _ a.e.a r.result.v c.with-next.ensures }
 
 pub carry_out_spec : {M : Type 1} → statement M
-carry_out_spec = tie.close (tie.spec reached-requires with-requires same_length returns)
+carry_out_spec = tie.close (tie.spec reached-d-requires with-next-requires shape_of-memory returns)

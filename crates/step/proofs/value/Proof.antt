@@ -10,32 +10,32 @@ sum-requires c κs = search rules
 difference-requires : tie.Need-difference-requires
 difference-requires c κs = search rules
 
-choose-requires : tie.Need-choose-requires
-choose-requires c κs = search rules
+choose-sum-requires : tie.Need-choose-sum-requires
+choose-sum-requires c κs = search rules
 
 product-requires : tie.Need-product-requires
 product-requires c κs = search rules
 
-choose-requires-2 : tie.Need-choose-requires-2
-choose-requires-2 c κs = search rules
+choose-pair-requires : tie.Need-choose-pair-requires
+choose-pair-requires c κs = search rules
 
-moved-by-requires : tie.Need-moved-by-requires
-moved-by-requires c κs = search rules
+moved_by-requires : tie.Need-moved_by-requires
+moved_by-requires c κs = search rules
 
-choose-requires-3 : tie.Need-choose-requires-3
-choose-requires-3 c κs = search rules
+choose-more-requires : tie.Need-choose-more-requires
+choose-more-requires c κs = search rules
 
-choose-requires-4 : tie.Need-choose-requires-4
-choose-requires-4 c κs = search rules
+choose-plain-requires : tie.Need-choose-plain-requires
+choose-plain-requires c κs = search rules
 
-choose-requires-5 : tie.Need-choose-requires-5
-choose-requires-5 c κs = search rules
+choose-requires : tie.Need-choose-requires
+choose-requires c κs = search rules
 
 -- where the last of opcodes 3 to 5 and 7 is chosen, and where sum and difference are
-abbrev more : tie.After-choose5 → tie.After-choose3
+abbrev more : tie.After-choose → tie.After-choose-more
 more c = c.before.before
 
-abbrev sums : tie.After-choose3 → tie.After-choose
+abbrev sums : tie.After-choose-more → tie.After-choose-sum
 sums c = c.before.before.before.before
 
 returns : tie.Need-returns
@@ -45,13 +45,13 @@ returns c =
     chosen _ _ _ _ _ _ _ _ _ _ _ _ _
     s.before.before.sum.ensures
     s.before.difference.ensures
-    s.choose.ensures
+    s.choose-sum.ensures
     m.before.before.before.product.ensures
-    m.before.before.choose2.ensures
+    m.before.before.choose-pair.ensures
     m.before.moved_by.ensures
-    m.choose3.ensures
-    c.before.choose4.ensures
-    c.choose5.ensures
+    m.choose-more.ensures
+    c.before.choose-plain.ensures
+    c.choose.ensures
 
 pub value_spec : {M : Type 1} → statement M
 value_spec =
@@ -59,11 +59,11 @@ value_spec =
     (tie.spec
     sum-requires
     difference-requires
-    choose-requires
+    choose-sum-requires
     product-requires
-    choose-requires-2
-    moved-by-requires
-    choose-requires-3
-    choose-requires-4
-    choose-requires-5
+    choose-pair-requires
+    moved_by-requires
+    choose-more-requires
+    choose-plain-requires
+    choose-requires
     returns)
