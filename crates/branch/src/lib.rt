@@ -1,4 +1,6 @@
 // The last instruction of a block: Q7 to Q9 and Q13 to Q15, and what an edge tells.
+#![tactic(auto)]
+
 ghost use Rattle.std.specs.Prelude.{◌≡◌, List, ℕ, suc, ◌≤◌, ◌<◌, length, true};
 ghost use Rattle.model.specs.Question.{Question, Refusal, is_answer};
 ghost use Rattle.model.specs.Word.{opcode_of, a_of, b_of};
