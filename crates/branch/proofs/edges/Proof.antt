@@ -62,9 +62,8 @@ returns-then-op-eq-JUMP c =
 
 learn-t-requires : tie.Need-learn-t-requires
 learn-t-requires c κs =
-    let e = c.before in
-    let b = branches e in
-    let r = registers _ (start (opcode e)).requires.0 in
+    let b = branches c in
+    let r = registers _ (start (opcode c)).requires.0 in
     (b.least, b.most, r.0, r.1)
 
 fork-requires : tie.Need-fork-requires
@@ -73,7 +72,7 @@ fork-requires c κs = search rules
 returns : tie.Need-returns
 returns c =
     let l = c.before.before in
-    let b = branches l.before.before in (
+    let b = branches l.before in (
       λ P b' leads place types views fields since base.
           c.fork.ensures.0 place types
           ∙ fork-edges _ P place b' _ _ _ _ leads b.least b.most _ _ _ _ (l.learn-t.ensures.0 views fields since base),
