@@ -23,7 +23,7 @@ use Rattle.fits.proofs.is_span.Tie as tie
 -- ---- places: the start, seen from past each test, and the frame that v is read in
 
 abbrev start : tie.After-kind-2 → tie.Start
-start c = c.before.before.before
+start c = c.before.before.before.before
 
 abbrev start-1 : tie.After-record_type-2 → tie.Start
 start-1 c = start c.before.before.before
