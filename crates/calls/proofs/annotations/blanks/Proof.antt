@@ -49,8 +49,8 @@ loop-b-preserved c =
     let same = w.is_blank.ensures ∙ blank-is _ _ _ w.type_words.ensures in (
       ⊎_elim (λ t. omega arith) (λ t. omega arith) c.if-is_blank.branch-raw,
       ⊎_elim
-          (λ (t, e). let more = ap length (blanks-here _ _ (omega arith) (sym same ∙ t.taken)) in omega (arith, l.invariant.1, more, e))
-          (λ (t, e). let on = ap length (blanks-on _ _ (omega arith) (sym same ∙ t.left)) in omega (arith, l.invariant.1, on, e))
+          (λ t. let more = ap length (blanks-here _ _ (omega arith) (sym same ∙ t.if-is_blank.true)) in omega (arith, l.invariant.1, more, t.found-is))
+          (λ t. let on = ap length (blanks-on _ _ (omega arith) (sym same ∙ t.if-is_blank.false)) in omega (arith, l.invariant.1, on, t.found-is))
           c.if-is_blank.branch-raw,
     )
 

@@ -14,5 +14,5 @@ returns c =
     s.args.i
     _
     c.between.ensures
-    c.before.before.start_of_lem.ensures
-    c.before.end_of_lem.ensures
+    c.start_of-from.ensures
+    c.end_of-to.ensures

@@ -8,4 +8,4 @@ use Rattle.calls.proofs.parts.start_of.Goals as goal
 pub returns : goal.returns
 returns c =
     let s = c.before.before.before in
-    c.end_of_lem.ensures ∙ one-before 0 (take s.args.marked s.args.ends.now) s.args.i c.if-i-eq0.false
+    c.end_of.ensures ∙ one-before 0 (take s.args.marked s.args.ends.now) s.args.i c.if-i-eq0.false
