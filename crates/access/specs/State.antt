@@ -5,7 +5,9 @@ use Rattle.model.specs.Table.{Tables, head_of}
 use Rattle.model.specs.Machine.{Access, to_load, to_store}
 use Rattle.model.specs.Reading.{Reading, look, loaded, stored}
 use Rattle.model.specs.Check.{value_in, may_touch, permits}
-use Rattle.known.specs.Numbers.{values_of, Lent}
+use Rattle.std.specs.Borrow.{MutBor}
+use denote.Triple.Both.{Both}
+use Rattle.known.specs.Numbers.{values_of}
 use Rattle.access.specs.declared.Progress.{Progress}
 
 -- A view is the birthplace of the fields seen. There are 32 birthplaces.
@@ -26,13 +28,17 @@ reading registers words frames constants views fields since base =
       fields = fields;
     }
 
+-- an array that a function is lent to write to, at its entry and at its exit
+abbrev pub LentMut : Type 0
+LentMut = Both (MutBor (List ℕ)) (MutBor (List ℕ))
+
 -- the reading that the lent arrays make at entry, and at exit
-abbrev pub before : Lent → Lent → Lent → Lent → Lent → Lent → ℕ → ℕ → Reading
+abbrev pub before : LentMut → LentMut → LentMut → LentMut → LentMut → LentMut → ℕ → ℕ → Reading
 before registers words frames constants views fields since base =
     reading registers.entry.now words.entry.now frames.entry.now constants.entry.now views.entry.now fields.entry.now
     since base
 
-abbrev pub after : Lent → Lent → Lent → Lent → Lent → Lent → ℕ → ℕ → Reading
+abbrev pub after : LentMut → LentMut → LentMut → LentMut → LentMut → LentMut → ℕ → ℕ → Reading
 after registers words frames constants views fields since base =
     reading registers.exit.now words.exit.now frames.exit.now constants.exit.now views.exit.now fields.exit.now
     since base
@@ -51,7 +57,7 @@ numbered place (suc n) a = refused (place (question_of (suc n)))
 
 -- Questions asked of the reading that the lent arrays make at entry, and how far it was: the number of the first no, or the reading
 -- that the arrays make at exit; and the fit questions among them, on top of those before.
-pub record Reads (registers words frames constants views fields : Lent) (s r : Progress)
+pub record Reads (registers words frames constants views fields : LentMut) (s r : Progress)
     (asks : (Question → Refusal) → Reading → Outcome Reading) (puts : Reading → ℕ) : Type 0 where
   pub outcome : (place : Question → Refusal)
       → numbered place r.number (after registers words frames constants views fields r.since r.base)

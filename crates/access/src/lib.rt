@@ -3,6 +3,8 @@
 // A block's reading is held in local arrays of one function, lent to the others: the value in each register, the type word,
 // frame and constant of each value, the fields seen through each value, and the fields of the record at hand. Every contract
 // says that the arrays at exit are the definition's reading after it, made of those at entry.
+#![tactic(auto)]
+
 ghost use Rattle.std.specs.Prelude.{◌≡◌, List, ℕ, ◌+◌, ◌*◌, ◌%◌, ◌≤◌, ◌<◌, length, set, eqb, ltb, true, not};
 ghost use Rattle.model.specs.Question.{◌or◌, Question, Refusal, is_answer};
 ghost use Rattle.model.specs.Table.{tables_of, head_of};

@@ -8,11 +8,11 @@ use Rattle.model.specs.Values.{Values, birthplace, typed, known_equal}
 use Rattle.model.specs.Reading.{row_fits, Reading, not_zero, no_base, taken, untaken}
 use Rattle.instruction.specs.Form.{target_of, forks}
 use Rattle.known.specs.Numbers.{values_of, Lent, dep_at, sibling_of}
-use Rattle.access.specs.State.{reading}
+use Rattle.access.specs.State.{LentMut, reading}
 use Rattle.branch.specs.declared.EdgeFacts.{EdgeFacts}
 
--- the reading that the lent arrays make
-abbrev pub reading_in : Lent → Lent → Lent → Lent → List ℕ → List ℕ → ℕ → ℕ → Reading
+-- the reading that the lent arrays make at entry
+abbrev pub reading_in : Lent → LentMut → Lent → Lent → List ℕ → List ℕ → ℕ → ℕ → Reading
 reading_in registers words frames constants views fields since base =
     reading registers.entry.now words.entry.now frames.entry.now constants.entry.now views fields since base
 

@@ -1,4 +1,6 @@
 // The last instruction of a block: Q7 to Q9 and Q13 to Q15, and what an edge tells.
+#![tactic(auto)]
+
 ghost use Rattle.std.specs.Prelude.{◌≡◌, List, ℕ, suc, ◌≤◌, ◌<◌, length, true};
 ghost use Rattle.model.specs.Question.{Question, Refusal, is_answer};
 ghost use Rattle.model.specs.Word.{opcode_of, a_of, b_of};
@@ -12,6 +14,7 @@ ghost use Rattle.instruction.specs.Rows.{opcode_rows};
 ghost use Rattle.instruction.specs.Form.{end_of};
 ghost use Rattle.known.specs.Numbers.{values_of, tables_in, values_in};
 ghost use Rattle.access.specs.State.{numbered};
+ghost use Rattle.access.specs.State.{reading};
 ghost use Rattle.branch.specs.End.{reading_in, end_no, retyped, past_zero, next_kind, taken_in, untaken_in, Tells, fork_ask, fork_asked, EdgeRows};
 
 use access::NO_BASE;
@@ -141,7 +144,7 @@ fn learn(
 ) -> EdgeFacts
     requires { (10 < opcode_of word) × (opcode_of word ≤ 12) × (a_of word < 8) × (b_of word < 8) }
     ensures { ((views fields : List ℕ) (since base : ℕ) → Tells result words.now frames.now constants.now
-        (end_of word) (reading_in registers words frames constants views fields since base))
+        (end_of word) (reading registers.now words.now frames.now constants.now views fields since base))
         × (result.equal ≤ 256) }
 {
     let a = word::a(word);

@@ -1,4 +1,6 @@
 // The machine: a block, and a run with its opening questions.
+#![tactic(auto)]
+
 ghost use Rattle.std.specs.Prelude.{◌≡◌, ℕ, ◌+◌, ◌/◌, ◌<◌, ◌≤◌, length, get_or};
 ghost use Rattle.model.specs.Table.{Routine, code_of};
 ghost use Rattle.model.specs.Machine.{steps, run, returned, ready};

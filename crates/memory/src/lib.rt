@@ -1,4 +1,6 @@
 // The memory check (Q20) and the entry check (Q16, Q21).
+#![tactic(auto)]
+
 ghost use Rattle.std.specs.Prelude.{◌≡◌, true, List, ℕ, ◌+◌, ◌*◌, ◌≤◌, ◌<◌, length, get_or};
 ghost use Rattle.model.specs.Question.{ok, first_no, verdict_of};
 ghost use Rattle.model.specs.Table.{rows, words_of, tables_of, well_made, code_of};

@@ -1,4 +1,6 @@
 // What the program answers, put into a buffer after what the buffer holds already. Nothing is written out here.
+#![tactic(auto)]
+
 ghost use Rattle.std.specs.Prelude.{◌≡◌, [], ◌∷◌, ◌+◌, ◌*◌, ◌≤◌, length};
 ghost use Rattle.protocol.specs.Text.{decimal, fields, verdict_text, check_text, run_text, malformed_text};
 ghost use Rattle.protocol.specs.Text.{field as fieldText};

@@ -1,5 +1,7 @@
 // The line protocol: a line is read into pools of words, of the places where its parts end and of long numbers. Byte by byte where
 // it must be, a whole number at a time where it can be; however the input is cut into pieces, the line is read the same.
+#![tactic(auto)]
+
 ghost use Rattle.std.specs.Prelude.{◌≡◌, ℕ, ◌-◌, ◌<◌, ◌≤◌, true, List, length, nat_lt};
 ghost use Rattle.grammar.specs.Grammar.{pool, row_length, word_end};
 ghost use Rattle.grammar.specs.Phase.{COMMENT};

@@ -1,4 +1,6 @@
 // A line, read byte by byte into pools of words, of the places where its parts end and of long numbers.
+#![tactic(auto)]
+
 ghost use Rattle.std.specs.Prelude.{◌≡◌, ℕ, ◌<◌, ◌≤◌, List};
 ghost use Rattle.grammar.specs.Grammar.{pool, row_length, word_end};
 ghost use Rattle.grammar.specs.Phase.{GAP, COMMENT};

@@ -1,4 +1,6 @@
 // How a block is read up to its last instruction: Q7 and Q8, new values, copies and moves. Loads and stores are `access`.
+#![tactic(auto)]
+
 ghost use Rattle.std.specs.Prelude.{◌≡◌, List, ℕ, ◌*◌, ◌%◌, ◌≤◌, ◌<◌, set, eqb, false};
 ghost use Rattle.model.specs.Question.{◌and◌};
 ghost use Rattle.model.specs.Word.{signed};

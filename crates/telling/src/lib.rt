@@ -1,4 +1,6 @@
 // What is said of a row of the table of numbers. A row is its columns in order, with bars between them: name, meaning, usual cause, remedy, place.
+#![tactic(auto)]
+
 ghost use Rattle.std.specs.Prelude.{◌≡◌, ◌+◌, ◌≤◌, length, drop};
 ghost use Rattle.output.specs.Appended.{buffer, Appended};
 ghost use Rattle.telling.specs.Row.{after_byte, column_of, letter_text, written, has_place, place_text, answer_text, said_text, Fine};

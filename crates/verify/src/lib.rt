@@ -1,6 +1,8 @@
 // The check of a routine: Q7 to Q15 and Q23 of its blocks, and the public call, which asks Q1 to Q6 before them.
 //
 // The arrays of a block's reading are locals of `block` and of `inside`, lent to what reads its instructions.
+#![tactic(auto)]
+
 ghost use Rattle.std.specs.Prelude.{◌≡◌, true, List, ℕ, ◌+◌, ◌*◌, ◌≤◌, ◌<◌, length};
 ghost use Rattle.model.specs.Question.{Question, Refusal, is_answer, verdict_of};
 ghost use Rattle.model.specs.Table.{code_of, Routine, tables_of};

@@ -10,121 +10,121 @@ use Rattle.access.proofs.look.Tie as tie
 
 -- ---- places: the view read, and the type's row
 
-abbrev start : tie.After-wide → tie.Start
-start c = c.before.before.before.before.before.before
+abbrev start : tie.After-wide-seen → tie.Start
+start c = c.before.before.before.before.before.before.before
 
-abbrev viewed : tie.After-row → tie.After-wide
+abbrev viewed : tie.After-row-own → tie.After-wide-seen
 viewed c = c.before.before.before.before
 
-row-exists : (c : tie.After-row) → (start (viewed c)).args.x.t * 9 + 9 ≤ length (start (viewed c)).args.types.now
+row-exists : (c : tie.After-row-own) → (start (viewed c)).args.x.t * 9 + 9 ≤ length (start (viewed c)).args.types.now
 row-exists c = (start (viewed c)).requires.1
 
 -- ---- the needs
 
-returns : tie.Need-returns
-returns c = λ registers tags. look-open _ _ _ _ _ _ _ _ _ _ _ _ _ (omega arith)
+returns-then-s-lt-NO_BASE : tie.Need-returns-then-s-lt-NO_BASE
+returns-then-s-lt-NO_BASE c = λ registers tags. look-open _ _ _ _ _ _ _ _ _ _ _ _ _ (omega arith)
 
-cast-v : tie.Need-overflow-cast-v
-cast-v c = search rules
+overflow_cast-v : tie.Need-overflow_cast-v
+overflow_cast-v c = search rules
 
-element-copy-out-wide : tie.Need-element-copy-out-wide
-element-copy-out-wide c = search rules
+bounds-views-v : tie.Need-bounds-views-v
+bounds-views-v c = search rules
 
-wide-requires : tie.Need-wide-requires
-wide-requires c κs = search rules
+wide-seen-requires : tie.Need-wide-seen-requires
+wide-seen-requires c κs = search rules
 
-mul-name-all : tie.Need-overflow-mul-name-all
-mul-name-all c = search rules
+overflow_mul-seen : tie.Need-overflow_mul-seen
+overflow_mul-seen c = search rules
 
-name-all-requires : tie.Need-name-all-requires
-name-all-requires c κs = search rules
+name_all-requires : tie.Need-name_all-requires
+name_all-requires c κs = search rules
 
-returns-2 : tie.Need-returns-2
-returns-2 c =
+returns-then-s-seen : tie.Need-returns-then-s-seen
+returns-then-s-seen c =
     let w = c.before.before.before.before in
-    λ registers tags. look-seen _ _ _ _ _ _ _ _ _ _ _ _ _ (omega arith) _ w.wide.ensures.0 (omega arith) _ c.name-all.ensures
+    λ registers tags. look-seen _ _ _ _ _ _ _ _ _ _ _ _ _ (omega arith) _ w.wide-seen.ensures.0 (omega arith) _ c.name_all.ensures
 
-cast-row : tie.Need-overflow-cast-row
-cast-row c = search rules
+overflow_cast-x : tie.Need-overflow_cast-x
+overflow_cast-x c = search rules
 
-row-requires : tie.Need-row-requires
-row-requires c κs = search rules
+row-own-requires : tie.Need-row-own-requires
+row-own-requires c κs = search rules
 
-sub-copy-row : tie.Need-overflow-sub-copy-row
-sub-copy-row c = omega (arith, row_words _ _ _ (row-exists c.before) c.before.row.ensures)
+slice_bounds-copy_row-count : tie.Need-slice_bounds-copy_row-count
+slice_bounds-copy_row-count c = omega (arith, row_words _ _ _ (row-exists c.before) c.row-own.ensures)
 
-part-copy-row-start : tie.Need-slice-bounds-copy-row-start
-part-copy-row-start c = omega (arith, row_words _ _ _ (row-exists c.before) c.before.row.ensures)
+slice_bounds-copy_row-start : tie.Need-slice_bounds-copy_row-start
+slice_bounds-copy_row-start c = omega (arith, row_words _ _ _ (row-exists c.before) c.row-own.ensures)
 
-part-copy-row-end : tie.Need-slice-bounds-copy-row-end
-part-copy-row-end c = search rules
+slice_bounds-copy_row-end : tie.Need-slice_bounds-copy_row-end
+slice_bounds-copy_row-end c = search rules
 
-mul-copy-row : tie.Need-overflow-mul-copy-row
-mul-copy-row c = search rules
+overflow_mul-g : tie.Need-overflow_mul-g
+overflow_mul-g c = search rules
 
-copy-row-requires : tie.Need-copy-row-requires
-copy-row-requires c κs = let r = c.before.before in omega (arith, part_length _ _ _ (row-exists r) r.row.ensures)
+copy_row-requires : tie.Need-copy_row-requires
+copy_row-requires c κs = let r = c.before.before in omega (arith, part_length _ _ _ (row-exists r) r.row-own.ensures)
 
-cast-frames : tie.Need-overflow-cast-frames
-cast-frames c = search rules
+overflow_cast-frames : tie.Need-overflow_cast-frames
+overflow_cast-frames c = search rules
 
-element-write-frames : tie.Need-element-write-frames
-element-write-frames c = search rules
+bounds-frames-g : tie.Need-bounds-frames-g
+bounds-frames-g c = search rules
 
-mul-constants : tie.Need-overflow-mul-constants
-mul-constants c = search rules
+offset_bounds-constants-g : tie.Need-offset_bounds-constants-g
+offset_bounds-constants-g c = search rules
 
-element-write-constants : tie.Need-element-write-constants
-element-write-constants c = search rules
+bounds-constants-g : tie.Need-bounds-constants-g
+bounds-constants-g c = search rules
 
-cast-views : tie.Need-overflow-cast-views
-cast-views c = search rules
+overflow_cast-views : tie.Need-overflow_cast-views
+overflow_cast-views c = search rules
 
-element-write-views : tie.Need-element-write-views
-element-write-views c = search rules
+bounds-views-v-2 : tie.Need-bounds-views-v-2
+bounds-views-v-2 c = search rules
 
-cast-name-all : tie.Need-overflow-cast-name-all
-cast-name-all c = search rules
+overflow_cast-g : tie.Need-overflow_cast-g
+overflow_cast-g c = search rules
 
-mul-name-all-2 : tie.Need-overflow-mul-name-all-2
-mul-name-all-2 c = search rules
+overflow_mul-g-2 : tie.Need-overflow_mul-g-2
+overflow_mul-g-2 c = search rules
 
-name-all-requires-2 : tie.Need-name-all-requires-2
-name-all-requires-2 c κs = search rules
+name_all-requires-2 : tie.Need-name_all-requires-2
+name_all-requires-2 c κs = search rules
 
-returns-3 : tie.Need-returns-3
-returns-3 c =
+returns : tie.Need-returns
+returns c =
     let l = c.before.before in
     let r = l.before.before.before in
     λ registers tags.
-    look-born _ _ _ _ _ _ _ _ _ _ _ _ _ (omega arith) _ (viewed r).wide.ensures.0 (omega arith) (start (viewed r)).requires.0 _ _ _
-    (part-is _ _ _ r.row.ensures) l.copy-row.ensures c.name-all2.ensures
+    look-born _ _ _ _ _ _ _ _ _ _ _ _ _ (omega arith) _ (viewed r.before.before).wide-seen.ensures.0 (omega arith) (start (viewed r.before.before)).requires.0 _ _ _
+    (part-is _ _ _ r.row-own.ensures) l.copy_row.ensures c.name_all-2.ensures
 
 pub look_spec : {M : Type 1} → statement M
 look_spec =
     tie.close
     (tie.spec
-    returns
-    cast-v
-    element-copy-out-wide
-    wide-requires
-    mul-name-all
-    name-all-requires
-    returns-2
-    cast-row
-    row-requires
-    sub-copy-row
-    part-copy-row-start
-    part-copy-row-end
-    mul-copy-row
-    copy-row-requires
-    cast-frames
-    element-write-frames
-    mul-constants
-    element-write-constants
-    cast-views
-    element-write-views
-    cast-name-all
-    mul-name-all-2
-    name-all-requires-2
-    returns-3)
+    returns-then-s-lt-NO_BASE
+    overflow_cast-v
+    bounds-views-v
+    wide-seen-requires
+    overflow_mul-seen
+    name_all-requires
+    returns-then-s-seen
+    overflow_cast-x
+    row-own-requires
+    slice_bounds-copy_row-count
+    slice_bounds-copy_row-start
+    slice_bounds-copy_row-end
+    overflow_mul-g
+    copy_row-requires
+    overflow_cast-frames
+    bounds-frames-g
+    offset_bounds-constants-g
+    bounds-constants-g
+    overflow_cast-views
+    bounds-views-v-2
+    overflow_cast-g
+    overflow_mul-g-2
+    name_all-requires-2
+    returns)

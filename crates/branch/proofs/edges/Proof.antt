@@ -13,29 +13,29 @@ use Rattle.branch.proofs.edges.Tie as tie
 
 -- ---- places: the opcode read, a branch
 
-abbrev start : tie.After-opcode → tie.Start
+abbrev start : tie.After-opcode-op → tie.Start
 start c = c.before.before.before.before
 
-abbrev opcode : tie.Else2 → tie.After-opcode
+abbrev opcode : tie.Else-op-eq-JUMP → tie.After-opcode-op
 opcode c = c.before.before
 
-record Branches (c : tie.Else2) : Type 0 where
+record Branches (c : tie.Else-op-eq-JUMP) : Type 0 where
   least : 10 < opcode_of (start (opcode c)).args.word
   most : opcode_of (start (opcode c)).args.word ≤ 12
 
-branches : (c : tie.Else2) → Branches c
+branches : (c : tie.Else-op-eq-JUMP) → Branches c
 branches c =
     let s = start (opcode c) in
-    let l = s.pre.1 (omega arith) in
-    record { least = omega arith; most = known _ s.pre.0 }
+    let l = s.requires.1 (omega arith) in
+    record { least = omega arith; most = known _ s.requires.0 }
 
 -- ---- the needs
 
-opcode-requires : tie.Need-opcode-requires
-opcode-requires c κs = search rules
+opcode-op-requires : tie.Need-opcode-op-requires
+opcode-op-requires c κs = search rules
 
-returns : tie.Need-returns
-returns c = (
+returns-then-op-eq-HALT : tie.Need-returns-then-op-eq-HALT
+returns-then-op-eq-HALT c = (
   λ P b leads place types views fields since base. edges-halt _ P place b _ _ (omega arith),
   refl,
   λ P b leads types views fields since base. halt-asked _ P _ _ (omega arith),
@@ -44,54 +44,53 @@ returns c = (
 edge-requires : tie.Need-edge-requires
 edge-requires c κs = search rules
 
-returns-2 : tie.Need-returns-2
-returns-2 c =
-    let f = c.before.edge.ensures in (
-      λ P b leads place types views fields since base. jump-yes _ P place b _ _ (omega arith) _ _ leads _ (f types) c.if3.true,
+returns-then-edge : tie.Need-returns-then-edge
+returns-then-edge c =
+    let f = c.edge.ensures in (
+      λ P b leads place types views fields since base. jump-yes _ P place b _ _ (omega arith) _ _ leads _ (f types) c.if-edge.true,
       refl,
       λ P b leads types views fields since base. jump-asked _ P _ _ (omega arith),
     )
 
-returns-3 : tie.Need-returns-3
-returns-3 c =
-    let f = c.before.edge.ensures in (
-      λ P b leads place types views fields since base. jump_no _ P place b _ _ (omega arith) _ _ leads _ (f types) c.if3.false,
+returns-then-op-eq-JUMP : tie.Need-returns-then-op-eq-JUMP
+returns-then-op-eq-JUMP c =
+    let f = c.edge.ensures in (
+      λ P b leads place types views fields since base. jump_no _ P place b _ _ (omega arith) _ _ leads _ (f types) c.if-edge.false,
       answer-of _ q14 refl,
       λ P b leads types views fields since base. jump-asked _ P _ _ (omega arith),
     )
 
-learn-requires : tie.Need-learn-requires
-learn-requires c κs =
-    let e = c.before in
-    let b = branches e in
-    let r = registers _ (start (opcode e)).requires.0 in
+learn-t-requires : tie.Need-learn-t-requires
+learn-t-requires c κs =
+    let b = branches c in
+    let r = registers _ (start (opcode c)).requires.0 in
     (b.least, b.most, r.0, r.1)
 
 fork-requires : tie.Need-fork-requires
 fork-requires c κs = search rules
 
-returns-4 : tie.Need-returns-4
-returns-4 c =
+returns : tie.Need-returns
+returns c =
     let l = c.before.before in
-    let b = branches l.before.before in (
+    let b = branches l.before in (
       λ P b' leads place types views fields since base.
           c.fork.ensures.0 place types
-          ∙ fork-edges _ P place b' _ _ _ _ leads b.least b.most _ _ _ _ (l.learn.ensures.0 views fields since base),
+          ∙ fork-edges _ P place b' _ _ _ _ leads b.least b.most _ _ _ _ (l.learn-t.ensures.0 views fields since base),
       c.fork.ensures.1,
       λ P b' leads types views fields since base.
           c.fork.ensures.2 types
-          ∙ fork-asked _ P b' _ _ _ _ leads b.least b.most _ _ _ _ (l.learn.ensures.0 views fields since base),
+          ∙ fork-asked _ P b' _ _ _ _ leads b.least b.most _ _ _ _ (l.learn-t.ensures.0 views fields since base),
     )
 
 pub edges_spec : {M : Type 1} → statement M
 edges_spec =
     tie.close
     (tie.spec
-    opcode-requires
-    returns
+    opcode-op-requires
+    returns-then-op-eq-HALT
     edge-requires
-    returns-2
-    returns-3
-    learn-requires
+    returns-then-edge
+    returns-then-op-eq-JUMP
+    learn-t-requires
     fork-requires
-    returns-4)
+    returns)

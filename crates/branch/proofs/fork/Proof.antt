@@ -14,83 +14,83 @@ use Rattle.branch.proofs.fork.Tie as tie
 
 -- ---- places: the taken edge asked, and past it
 
-abbrev index : tie.After-edge → tie.After-index
+abbrev index : tie.After-edge → tie.After-index-i
 index c = c.before.before
 
 abbrev start : tie.After-edge → tie.Start
 start c = (index c).before.before.before.before
 
-abbrev past : tie.After-edge2 → tie.Else1
+abbrev past : tie.After-edge-2 → tie.Else-not-edge
 past c = c.before.before
 
 -- past the taken edge, both are put
-asked-both : (c : tie.Else1) (types : List ℕ) → let s = (start c.before).args in
+asked-both : (c : tie.Else-not-edge) (types : List ℕ) → let s = (start c.before).args in
     16 ≡ fork_asked (tables_of types s.tags.now) s.registers.now
     (taken_in s.t s.words.now s.frames.now s.constants.now) s.taken.now
 asked-both c types =
     let f = c.before in
     let s = (start f).args in
-    both-asked _ _ s.words.now s.frames.now s.constants.now _ s.t _ (index f).index.ensures.0 _ (f.edge.ensures types)
-    (not-false _ c.if1.false)
+    both-asked _ _ s.words.now s.frames.now s.constants.now _ s.t _ (index f).index-i.ensures.0 _ (f.edge.ensures types)
+    (not-false _ c.if-not-edge.false-raw)
 
 -- ---- the needs
 
-index-requires : tie.Need-index-requires
-index-requires c κs = search rules
+index-i-requires : tie.Need-index-i-requires
+index-i-requires c κs = search rules
 
-mul_words : tie.Need-overflow-mul-words
-mul_words c = search rules
+offset_bounds-words-i : tie.Need-offset_bounds-words-i
+offset_bounds-words-i c = search rules
 
-element-write-words : tie.Need-element-write-words
-element-write-words c = search rules
+bounds-words-i : tie.Need-bounds-words-i
+bounds-words-i c = search rules
 
 edge-requires : tie.Need-edge-requires
 edge-requires c κs = search rules
 
-returns : tie.Need-returns
-returns c =
+returns-then-not-edge : tie.Need-returns-then-not-edge
+returns-then-not-edge c =
     let f = c.before in
     let s = (start f).args in (
       λ place types.
-          fork-taken _ _ _ s.words.now s.frames.now s.constants.now _ s.untaken.now s.t _ (index f).index.ensures.0 _
-          (f.edge.ensures types) (not-true _ c.if1.true),
+          fork-taken _ _ _ s.words.now s.frames.now s.constants.now _ s.untaken.now s.t _ (index f).index-i.ensures.0 _
+          (f.edge.ensures types) (not-true _ c.if-not-edge.true-raw),
       answer-of _ q14 refl,
       λ types.
-          one-asked _ _ s.words.now s.frames.now s.constants.now _ s.t _ (index f).index.ensures.0 _ (f.edge.ensures types)
-          (not-true _ c.if1.true),
+          one-asked _ _ s.words.now s.frames.now s.constants.now _ s.t _ (index f).index-i.ensures.0 _ (f.edge.ensures types)
+          (not-true _ c.if-not-edge.true-raw),
     )
 
-mul-words-2 : tie.Need-overflow-mul-words-2
-mul-words-2 c = search rules
+offset_bounds-words-i-2 : tie.Need-offset_bounds-words-i-2
+offset_bounds-words-i-2 c = search rules
 
-element-write-words-2 : tie.Need-element-write-words-2
-element-write-words-2 c = search rules
+bounds-words-i-2 : tie.Need-bounds-words-i-2
+bounds-words-i-2 c = search rules
 
 edge-requires-2 : tie.Need-edge-requires-2
 edge-requires-2 c κs = search rules
 
-returns-2 : tie.Need-returns-2
-returns-2 c =
+returns-then-not-edge-2 : tie.Need-returns-then-not-edge-2
+returns-then-not-edge-2 c =
     let h = c.before in
     let e = past h in
     let f = e.before in
     let s = (start f).args in (
       λ place types.
-          fork-untaken _ _ _ s.words.now s.frames.now s.constants.now _ _ s.t _ (index f).index.ensures.0 _
-          (f.edge.ensures types) (not-false _ e.if1.left) _ (h.edge2.ensures types) (not-true _ c.if2.true),
+          fork-untaken _ _ _ s.words.now s.frames.now s.constants.now _ _ s.t _ (index f).index-i.ensures.0 _
+          (f.edge.ensures types) (not-false _ e.if-not-edge.false-raw) _ (h.edge-2.ensures types) (not-true _ c.if-not-edge-2.true-raw),
       answer-of _ q15 refl,
       λ types. asked-both e types,
     )
 
-returns-3 : tie.Need-returns-3
-returns-3 c =
+returns : tie.Need-returns
+returns c =
     let h = c.before in
     let e = past h in
     let f = e.before in
     let s = (start f).args in (
       λ place types.
-          fork-both _ _ _ s.words.now s.frames.now s.constants.now _ _ s.t _ (index f).index.ensures.0 _
-          (f.edge.ensures types) (not-false _ e.if1.left) _ (h.edge2.ensures types) (not-false _ c.if2.false),
+          fork-both _ _ _ s.words.now s.frames.now s.constants.now _ _ s.t _ (index f).index-i.ensures.0 _
+          (f.edge.ensures types) (not-false _ e.if-not-edge.false-raw) _ (h.edge-2.ensures types) (not-false _ c.if-not-edge-2.false-raw),
       refl,
       λ types. asked-both e types,
     )
@@ -99,13 +99,13 @@ pub fork_spec : {M : Type 1} → statement M
 fork_spec =
     tie.close
     (tie.spec
-    index-requires
-    mul_words
-    element-write-words
+    index-i-requires
+    offset_bounds-words-i
+    bounds-words-i
     edge-requires
-    returns
-    mul-words-2
-    element-write-words-2
+    returns-then-not-edge
+    offset_bounds-words-i-2
+    bounds-words-i-2
     edge-requires-2
-    returns-2
-    returns-3)
+    returns-then-not-edge-2
+    returns)

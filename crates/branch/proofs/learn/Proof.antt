@@ -7,82 +7,82 @@ use Rattle.branch.proofs.learn.Tie as tie
 
 -- ---- places: the value tested, the second register of opcode 12, the constant of opcode 11
 
-abbrev tested : tie.After-opcode → tie.After-a
-tested c = c.before.before
+abbrev tested : tie.After-opcode → tie.After-a-a
+tested c = c.before.before.before
 
-abbrev second : tie.After-wide → tie.After-b
+abbrev second : tie.After-wide-u → tie.After-b-b
 second c = c.before.before
 
-abbrev indexed : tie.After-not-zero → tie.After-index
-indexed c = c.before.before
+abbrev indexed : tie.After-not_zero-past → tie.After-index-i
+indexed c = c.before.before.before
 
-abbrev constant : tie.After-index → tie.After-c
+abbrev constant : tie.After-index-i → tie.After-c-k
 constant c = c.before
 
 -- ---- the needs
 
-a-requires : tie.Need-a-requires
-a-requires c κs = search rules
+a-a-requires : tie.Need-a-a-requires
+a-a-requires c κs = search rules
 
-element-copy-out-v : tie.Need-element-copy-out-v
-element-copy-out-v c = search rules
+bounds-registers-a : tie.Need-bounds-registers-a
+bounds-registers-a c = search rules
 
 opcode-requires : tie.Need-opcode-requires
 opcode-requires c κs = search rules
 
-b-requires : tie.Need-b-requires
-b-requires c κs = search rules
+b-b-requires : tie.Need-b-b-requires
+b-b-requires c κs = search rules
 
-element-copy-out-wide : tie.Need-element-copy-out-wide
-element-copy-out-wide c = search rules
+bounds-registers-b : tie.Need-bounds-registers-b
+bounds-registers-b c = search rules
 
-wide-requires : tie.Need-wide-requires
-wide-requires c κs = search rules
+wide-u-requires : tie.Need-wide-u-requires
+wide-u-requires c κs = search rules
 
-below-requires : tie.Need-below-requires
-below-requires c κs = search rules
+below-less-requires : tie.Need-below-less-requires
+below-less-requires c κs = search rules
 
-not-below-requires : tie.Need-not-below-requires
-not-below-requires c κs = search rules
+not_below-past-requires : tie.Need-not_below-past-requires
+not_below-past-requires c κs = search rules
 
-returns : tie.Need-returns
-returns c =
+returns-then-opcode-eq-IF_LESS : tie.Need-returns-then-opcode-eq-IF_LESS
+returns-then-opcode-eq-IF_LESS c =
     let l = c.before in
     let w = l.before in
     let b = second w in
     let o = b.before.before in (
       λ views fields since base.
-          less-tells _ _ _ _ views fields since base _ _ (tested o).a.ensures.0 (omega arith) _ _ b.b.ensures.0 w.wide.ensures.0 _ _
-          l.below.ensures c.not-below.ensures,
+          less-tells _ _ _ _ views fields since base _ _ (tested o).a-a.ensures.0 (omega arith) _ _ b.b-b.ensures.0 w.wide-u.ensures.0 _ _
+          l.below-less.ensures c.not_below-past.ensures,
       omega arith,
     )
 
-c-requires : tie.Need-c-requires
-c-requires c κs = search rules
+c-k-requires : tie.Need-c-k-requires
+c-k-requires c κs = search rules
 
-index-requires : tie.Need-index-requires
-index-requires c κs = search rules
+index-i-requires : tie.Need-index-i-requires
+index-i-requires c κs = search rules
 
-mul-same : tie.Need-overflow-mul-same
-mul-same c = search rules
+offset_bounds-words-i : tie.Need-offset_bounds-words-i
+offset_bounds-words-i c = search rules
 
-element-copy-out-same : tie.Need-element-copy-out-same
-element-copy-out-same c = search rules
+bounds-words-i : tie.Need-bounds-words-i
+bounds-words-i c = search rules
 
-not-zero-requires : tie.Need-not-zero-requires
-not-zero-requires c κs = search rules
+not_zero-past-requires : tie.Need-not_zero-past-requires
+not_zero-past-requires c κs = search rules
 
-add-equal : tie.Need-overflow-add-equal
-add-equal c = search rules
+overflow_add-equal : tie.Need-overflow_add-equal
+overflow_add-equal c = search rules
 
-returns-2 : tie.Need-returns-2
-returns-2 c =
+returns : tie.Need-returns
+returns c =
     let i = indexed c in
     let k = constant i in
     let o = k.before.before in (
       λ views fields since base.
-          equal-tells _ _ _ _ views fields since base _ _ (tested o).a.ensures.0 (omega arith) _ k.c.ensures.0 _ _ i.index.ensures.0
-          (c.not-zero.ensures _ _),
+          equal-tells _ _ _ _ views fields since base _ _ (tested o).a-a.ensures.0 (omega arith) _ k.c-k.ensures.0 _ _ i.index-i.ensures.0
+          (c.not_zero-past.ensures _ _),
       omega arith,
     )
 
@@ -90,19 +90,19 @@ pub learn_spec : {M : Type 1} → statement M
 learn_spec =
     tie.close
     (tie.spec
-    a-requires
-    element-copy-out-v
+    a-a-requires
+    bounds-registers-a
     opcode-requires
-    b-requires
-    element-copy-out-wide
-    wide-requires
-    below-requires
-    not-below-requires
-    returns
-    c-requires
-    index-requires
-    mul-same
-    element-copy-out-same
-    not-zero-requires
-    add-equal
-    returns-2)
+    b-b-requires
+    bounds-registers-b
+    wide-u-requires
+    below-less-requires
+    not_below-past-requires
+    returns-then-opcode-eq-IF_LESS
+    c-k-requires
+    index-i-requires
+    offset_bounds-words-i
+    bounds-words-i
+    not_zero-past-requires
+    overflow_add-equal
+    returns)

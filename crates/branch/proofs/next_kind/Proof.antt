@@ -8,57 +8,57 @@ use Rattle.branch.proofs.Ends.{next-other, next-not, next-is}
 use Rattle.branch.proofs.next_kind.Statement.{statement}
 use Rattle.branch.proofs.next_kind.Tie as tie
 
-abbrev kind : tie.After-known-equal → tie.After-kind
+abbrev kind : tie.After-known_equal → tie.After-kind
 kind c = c.before.before.before
 
-mul-w : tie.Need-overflow-mul-w
-mul-w c = search rules
+offset_bounds-words-v : tie.Need-offset_bounds-words-v
+offset_bounds-words-v c = search rules
 
-element-copy-out-w : tie.Need-element-copy-out-w
-element-copy-out-w c = search rules
+bounds-words-v : tie.Need-bounds-words-v
+bounds-words-v c = search rules
 
 kind-requires : tie.Need-kind-requires
 kind-requires c κs = search rules
 
-returns : tie.Need-returns
-returns c = next-other _ _ _ _ _ _ _ _ c.before.kind.ensures.0 (λ h. omega arith)
+returns-then-kind : tie.Need-returns-then-kind
+returns-then-kind c = next-other _ _ _ _ _ _ _ _ c.kind.ensures.0 (λ h. omega arith)
 
-dependency-requires : tie.Need-dependency-requires
-dependency-requires c κs = search rules
+dependency-d-requires : tie.Need-dependency-d-requires
+dependency-d-requires c κs = search rules
 
-known-equal-requires : tie.Need-known-equal-requires
-known-equal-requires c κs = search rules
+known_equal-requires : tie.Need-known_equal-requires
+known_equal-requires c κs = search rules
 
-returns-2 : tie.Need-returns-2
-returns-2 c =
+returns-then-not-known_equal : tie.Need-returns-then-not-known_equal
+returns-then-not-known_equal c =
     let k = c.before in
-    next-not _ _ _ _ _ _ _ _ (kind k).kind.ensures.0 (omega arith) _ k.before.dependency.ensures
-    (test-false (k.known-equal.ensures 0 0 (paired-nothing _ refl)) c.if2.true)
+    next-not _ _ _ _ _ _ _ _ (kind k).kind.ensures.0 (omega arith) _ k.dependency-d.ensures
+    (test-false (k.known_equal.ensures 0 0 (paired-nothing _ refl)) c.if-not-known_equal.true-raw)
 
-add-with-kind : tie.Need-overflow-add-with-kind
-add-with-kind c = search rules
+overflow_add-kind : tie.Need-overflow_add-kind
+overflow_add-kind c = search rules
 
-with-kind-requires : tie.Need-with-kind-requires
-with-kind-requires c κs = search rules
+with_kind-requires : tie.Need-with_kind-requires
+with_kind-requires c κs = search rules
 
-returns-3 : tie.Need-returns-3
-returns-3 c =
+returns : tie.Need-returns
+returns c =
     let e = c.before in
     let k = e.before in
-    next-is _ _ _ _ _ _ _ _ (kind k).kind.ensures.0 (omega arith) _ k.before.dependency.ensures
-    (test-true (k.known-equal.ensures 0 0 (paired-nothing _ refl)) e.if2.false) _ c.with-kind.ensures
+    next-is _ _ _ _ _ _ _ _ (kind k).kind.ensures.0 (omega arith) _ k.dependency-d.ensures
+    (test-true (k.known_equal.ensures 0 0 (paired-nothing _ refl)) e.if-not-known_equal.false-raw) _ c.with_kind.ensures
 
 pub next_kind_spec : {M : Type 1} → statement M
 next_kind_spec =
     tie.close
     (tie.spec
-    mul-w
-    element-copy-out-w
+    offset_bounds-words-v
+    bounds-words-v
     kind-requires
-    returns
-    dependency-requires
-    known-equal-requires
-    returns-2
-    add-with-kind
-    with-kind-requires
-    returns-3)
+    returns-then-kind
+    dependency-d-requires
+    known_equal-requires
+    returns-then-not-known_equal
+    overflow_add-kind
+    with_kind-requires
+    returns)

@@ -17,16 +17,16 @@ use Rattle.machine.proofs.run.Tie as tie
 
 -- ---- the places past each question, and what is left to ask there
 
-abbrev start : tie.After-code-lengths → tie.Start
+abbrev start : tie.After-code_lengths-tables → tie.Start
 start c = c.before.before.before.before
 
-abbrev start-1 : tie.Else1 → tie.Start
+abbrev start-1 : tie.Else-tables-ne-PASSED → tie.Start
 start-1 c = start c.before.before
 
-abbrev past-1 : tie.Else2 → tie.Else1
+abbrev past-1 : tie.Else-lengths-ne-PASSED → tie.Else-tables-ne-PASSED
 past-1 c = c.before.before.before.before
 
-abbrev past-3 : tie.Else4 → tie.Else3
+abbrev past-3 : tie.Else-words-ne-PASSED → tie.Else-blocks-block
 past-3 c = c.before.before.before
 
 abbrev tables : tie.Start → Code
@@ -38,19 +38,19 @@ goes_with s = ready s.args.block s.args.registers
 abbrev Past : tie.Start → ℕ → Type 0
 Past s = RunPast (tables s) s.args.memory.now (goes_with s)
 
-left-1 : (c : tie.Else1) → Past (start-1 c) 1
-left-1 c = after-yes (run-begins _ _ (goes_with (start-1 c))) c.before.before.code-lengths.ensures c.if1.false
+left-1 : (c : tie.Else-tables-ne-PASSED) → Past (start-1 c) 1
+left-1 c = after-yes (run-begins _ _ (goes_with (start-1 c))) c.before.before.code_lengths-tables.ensures c.if-tables-ne-PASSED.false
 
-left-2 : (c : tie.Else2) → Past (start-1 (past-1 c)) 2
-left-2 c = after-yes (left-1 (past-1 c)) c.before.before.lengths.ensures.0 c.if2.false
+left-2 : (c : tie.Else-lengths-ne-PASSED) → Past (start-1 (past-1 c)) 2
+left-2 c = after-yes (left-1 (past-1 c)) c.before.before.lengths-lengths.ensures.0 c.if-lengths-ne-PASSED.false
 
-left-3 : (c : tie.Else3) → Past (start-1 (past-1 c.before)) 3
+left-3 : (c : tie.Else-blocks-block) → Past (start-1 (past-1 c.before)) 3
 left-3 c = after-yes (left-2 c.before) (start-yes _ _ (omega arith)) refl
 
 -- ---- what the lengths are where they passed
 
-code-lengths : (c : tie.Else1) → CodeLengths (length (start-1 c).args.blocks.now) (length (start-1 c).args.code.now)
-code-lengths c = code-lengths-passed _ _ _ c.before.before.code-lengths.ensures c.if1.false
+code-lengths : (c : tie.Else-tables-ne-PASSED) → CodeLengths (length (start-1 c).args.blocks.now) (length (start-1 c).args.code.now)
+code-lengths c = code-lengths-passed _ _ _ c.before.before.code_lengths-tables.ensures c.if-tables-ne-PASSED.false
 
 -- ---- a run that one of them refuses
 
@@ -68,94 +68,94 @@ refuses s v r er e n = let w = run-refused _ _ (goes_with s) _ v (e n) n in (er 
 
 -- ---- the needs
 
-code-lengths-requires : tie.Need-code-lengths-requires
-code-lengths-requires c κs = tt
+code_lengths-tables-requires : tie.Need-code_lengths-tables-requires
+code_lengths-tables-requires c κs = tt
 
 unopened-requires : tie.Need-unopened-requires
 unopened-requires c κs = tt
 
-returns : tie.Need-returns
-returns c =
+returns-then-tables-ne-PASSED : tie.Need-returns-then-tables-ne-PASSED
+returns-then-tables-ne-PASSED c =
     let a = c.before.before.before in
-    refuses (start a) _ _ c.unopened.ensures (at-no (run-begins _ _ (goes_with (start a))) a.code-lengths.ensures) c.before.if1.true
+    refuses (start a) _ _ c.unopened.ensures (at-no (run-begins _ _ (goes_with (start a))) a.code_lengths-tables.ensures) c.before.if-tables-ne-PASSED.true
 
-lengths-requires : tie.Need-lengths-requires
-lengths-requires c κs = omega (arith, code-lengths c.before)
+lengths-lengths-requires : tie.Need-lengths-lengths-requires
+lengths-lengths-requires c κs = omega (arith, code-lengths c.before)
 
-unopened-requires-2 : tie.Need-unopened-requires-2
-unopened-requires-2 c κs = tt
+unopened-requires-then-lengths-ne-PASSED : tie.Need-unopened-requires-then-lengths-ne-PASSED
+unopened-requires-then-lengths-ne-PASSED c κs = tt
 
-returns-2 : tie.Need-returns-2
-returns-2 c =
+returns-then-lengths-ne-PASSED : tie.Need-returns-then-lengths-ne-PASSED
+returns-then-lengths-ne-PASSED c =
     let a = c.before.before.before in
     let b = a.before.before in
-    refuses (start-1 b) _ _ c.unopened2.ensures (at-no (left-1 b) a.lengths.ensures.0) c.before.if2.true
+    refuses (start-1 b) _ _ c.unopened-then-lengths-ne-PASSED.ensures (at-no (left-1 b) a.lengths-lengths.ensures.0) c.before.if-lengths-ne-PASSED.true
 
 refused-requires : tie.Need-refused-requires
 refused-requires c κs = omega arith
 
-unopened-requires-3 : tie.Need-unopened-requires-3
-unopened-requires-3 c κs = tt
+unopened-requires-then-blocks-block : tie.Need-unopened-requires-then-blocks-block
+unopened-requires-then-blocks-block c κs = tt
 
-returns-3 : tie.Need-returns-3
-returns-3 c =
+returns-then-blocks-block : tie.Need-returns-then-blocks-block
+returns-then-blocks-block c =
     let a = c.before.before.before in
     let o = c.before.refused.ensures in
-    refuses (start-1 (past-1 a)) _ _ c.unopened3.ensures (at-no (left-2 a) (o ∙ start-no _ _ (omega arith)))
+    refuses (start-1 (past-1 a)) _ _ c.unopened-then-blocks-block.ensures (at-no (left-2 a) (o ∙ start-no _ _ (omega arith)))
     (λ z. omega (arith, ap (λ (v : Verdict). v.number) o))
 
-memory-length-requires : tie.Need-memory-length-requires
-memory-length-requires c κs = tt
+memory_length-words-requires : tie.Need-memory_length-words-requires
+memory_length-words-requires c κs = tt
 
-unopened-requires-4 : tie.Need-unopened-requires-4
-unopened-requires-4 c κs = tt
+unopened-requires-then-words-ne-PASSED : tie.Need-unopened-requires-then-words-ne-PASSED
+unopened-requires-then-words-ne-PASSED c κs = tt
 
-returns-4 : tie.Need-returns-4
-returns-4 c =
+returns-then-words-ne-PASSED : tie.Need-returns-then-words-ne-PASSED
+returns-then-words-ne-PASSED c =
     let a = c.before.before.before in
     let b = a.before in
-    refuses (start-1 (past-1 b.before)) _ _ c.unopened4.ensures (λ _. at_last (left-3 b) a.memory-length.ensures) c.before.if4.true
+    refuses (start-1 (past-1 b.before)) _ _ c.unopened-then-words-ne-PASSED.ensures (λ _. at_last (left-3 b) a.memory_length-words.ensures) c.before.if-words-ne-PASSED.true
 
-run-blocks-requires : tie.Need-run-blocks-requires
-run-blocks-requires c κs =
+run_blocks-requires : tie.Need-run_blocks-requires
+run_blocks-requires c κs =
     let a = (past-3 c.before.before).before in
-    let l = a.before.before.lengths.ensures in
+    let l = a.before.before.lengths-lengths.ensures in
     let b = code-lengths (past-1 a) in
     record {
-      lengths = no-refusal _ _ l.0 a.if2.left;
+      lengths = no-refusal _ _ l.0 a.if-lengths-ne-PASSED.false;
       few = b.most;
       short = b.long;
       exists = omega arith;
-      filled = λ k h. l.1 refl a.if2.left k h;
+      filled = λ k h. l.1 refl a.if-lengths-ne-PASSED.false k h;
     }
 
-same_length : tie.Need-same-length
-same_length c = search rules
+shape_of-memory : tie.Need-shape_of-memory
+shape_of-memory c = search rules
 
-returns-5 : tie.Need-returns-5
-returns-5 c =
+returns : tie.Need-returns
+returns c =
     let d = c.before.before in
     let a = d.before.before.before in
-    let e = at_last (left-3 (past-3 a)) a.before.before.memory-length.ensures in
-    let o = run-opens _ _ (goes_with (start-1 (past-1 (past-3 a).before))) _ _ e a.if4.false in
-    (d.run-blocks.ensures.0 ∙ ap returned o, d.run-blocks.ensures.1 ∙ ap (λ (a : Run). a.memory) o)
+    let e = at_last (left-3 (past-3 a)) a.before.before.memory_length-words.ensures in
+    let o = run-opens _ _ (goes_with (start-1 (past-1 (past-3 a).before))) _ _ e a.if-words-ne-PASSED.false in
+    (d.run_blocks.ensures.0 ∙ ap returned o, d.run_blocks.ensures.1 ∙ ap (λ (a : Run). a.memory) o)
 
 pub run_spec : {M : Type 1} → statement M
 run_spec =
     tie.close
     (tie.spec
-    code-lengths-requires
+    code_lengths-tables-requires
     unopened-requires
-    returns
-    lengths-requires
-    unopened-requires-2
-    returns-2
+    returns-then-tables-ne-PASSED
+    lengths-lengths-requires
+    unopened-requires-then-lengths-ne-PASSED
+    returns-then-lengths-ne-PASSED
     refused-requires
-    unopened-requires-3
-    returns-3
-    memory-length-requires
-    unopened-requires-4
-    returns-4
-    run-blocks-requires
-    same_length
-    returns-5)
+    unopened-requires-then-blocks-block
+    returns-then-blocks-block
+    memory_length-words-requires
+    unopened-requires-then-words-ne-PASSED
+    returns-then-words-ne-PASSED
+    run_blocks-requires
+    shape_of-memory
+    returns)

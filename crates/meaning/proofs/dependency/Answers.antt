@@ -1,7 +1,6 @@
 -- `meaning::dependency` meets its contract, at a constant and at a name.
 use native.Mathlib.Omega.{arith}
 use Rattle.meaning.proofs.Meanings.{dependency-name, dependency-constant}
-use borrow.Author.Rules.{rules}
 use Rattle.meaning.proofs.dependency.Goals as goal
 
 pub returns-then-x-ge-CONSTANTS : goal.returns-then-x-ge-CONSTANTS

@@ -2,7 +2,6 @@
 use mathlib.Core.Path.{◌∙◌}
 use native.Mathlib.Omega.{arith}
 use Rattle.meaning.proofs.Meanings.{tag-beyond, tag-starts}
-use borrow.Author.Rules.{rules}
 use Rattle.meaning.proofs.is_tagged.Goals as goal
 
 pub returns-then-tags-k : goal.returns-then-tags-k

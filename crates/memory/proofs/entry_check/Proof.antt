@@ -16,13 +16,13 @@ use Rattle.memory.proofs.entry_check.Tie as tie
 
 -- ---- the places past each question, and what is left to ask there
 
-abbrev start : tie.After-layout → tie.Start
+abbrev start : tie.After-layout-laid → tie.Start
 start c = c.before.before.before.before.before.before.before
 
-abbrev start-1 : tie.Else1 → tie.Start
+abbrev start-1 : tie.Else-laid-ne-PASSED → tie.Start
 start-1 c = start c.before.before
 
-abbrev past-1 : tie.Else2 → tie.Else1
+abbrev past-1 : tie.Else-made-ne-PASSED → tie.Else-laid-ne-PASSED
 past-1 c = c.before.before.before
 
 abbrev Past : tie.Start → ℕ → Type 0
@@ -30,56 +30,56 @@ Past s =
     EntryPast s.args.types.now s.args.tags.now s.args.allocations.now s.args.memory.now
     (code_of s.args.blocks.now s.args.code.now) (ready s.args.block s.args.registers)
 
-left-1 : (c : tie.Else1) → Past (start-1 c) 1
-left-1 c = after-yes (entry-begins _ _ _ _ _ _) c.before.before.layout.ensures c.if1.false
+left-1 : (c : tie.Else-laid-ne-PASSED) → Past (start-1 c) 1
+left-1 c = after-yes (entry-begins _ _ _ _ _ _) c.before.before.layout-laid.ensures c.if-laid-ne-PASSED.false
 
-left-2 : (c : tie.Else2) → Past (start-1 (past-1 c)) 2
-left-2 c = after-yes (left-1 (past-1 c)) c.before.before.routine.ensures c.if2.false
+left-2 : (c : tie.Else-made-ne-PASSED) → Past (start-1 (past-1 c)) 2
+left-2 c = after-yes (left-1 (past-1 c)) c.before.before.routine-made.ensures c.if-made-ne-PASSED.false
 
-laid : (c : tie.Else1)
+laid : (c : tie.Else-laid-ne-PASSED)
     → let s = (start-1 c).args in layout_ask s.types.now s.tags.now s.allocations.now (length s.memory.now) ≡ ok tt
-laid c = no-refusal _ _ c.before.before.layout.ensures c.if1.false
+laid c = no-refusal _ _ c.before.before.layout-laid.ensures c.if-laid-ne-PASSED.false
 
-made : (c : tie.Else2)
+made : (c : tie.Else-made-ne-PASSED)
     → let s = (start-1 (past-1 c)).args in routine_ask (rows s.types.now) (code_of s.blocks.now s.code.now) s.block ≡ ok tt
-made c = no-refusal _ _ c.before.before.routine.ensures c.if2.false
+made c = no-refusal _ _ c.before.before.routine-made.ensures c.if-made-ne-PASSED.false
 
 -- ---- the needs
 
-layout-requires : tie.Need-layout-requires
-layout-requires c κs = search rules
+layout-laid-requires : tie.Need-layout-laid-requires
+layout-laid-requires c κs = search rules
 
-returns : tie.Need-returns
-returns c = at-no (entry-begins _ _ _ _ _ _) c.before.before.layout.ensures c.if1.true
+returns-then-laid-ne-PASSED : tie.Need-returns-then-laid-ne-PASSED
+returns-then-laid-ne-PASSED c = at-no (entry-begins _ _ _ _ _ _) c.before.before.layout-laid.ensures c.if-laid-ne-PASSED.true
 
-routine-requires : tie.Need-routine-requires
-routine-requires c κs = layout-types _ _ _ _ (laid c)
+routine-made-requires : tie.Need-routine-made-requires
+routine-made-requires c κs = layout-types _ _ _ _ (laid c)
 
-returns-2 : tie.Need-returns-2
-returns-2 c = at-no (left-1 c.before.before.before) c.before.before.routine.ensures c.if2.true
+returns-then-made-ne-PASSED : tie.Need-returns-then-made-ne-PASSED
+returns-then-made-ne-PASSED c = at-no (left-1 c.before.before.before) c.before.before.routine-made.ensures c.if-made-ne-PASSED.true
 
 fill-requires : tie.Need-fill-requires
 fill-requires c κs = layout-can-be-laid _ _ _ _ (laid (past-1 c.before))
 
-registers-met-requires : tie.Need-registers-met-requires
-registers-met-requires c κs =
+registers_met-requires : tie.Need-registers_met-requires
+registers_met-requires c κs =
     let m = c.before.before.before in
     (layout-fields _ _ _ _ (laid (past-1 m)), omega (arith, routine-block _ _ _ (made m)), routine-well _ _ _ (made m))
 
-returns-3 : tie.Need-returns-3
-returns-3 c =
+returns : tie.Need-returns
+returns c =
     let f = c.before.before in
     let m = f.before.before in
-    at_last (left-2 m) (c.registers-met.ensures _ (layout-owned _ _ _ _ (laid (past-1 m)) 16384 _ refl f.fill.ensures))
+    at_last (left-2 m) (c.registers_met.ensures _ (layout-owned _ _ _ _ (laid (past-1 m)) 16384 _ refl f.fill.ensures))
 
 pub entry_check_spec : {M : Type 1} → statement M
 entry_check_spec =
     tie.close
     (tie.spec
-    layout-requires
-    returns
-    routine-requires
-    returns-2
+    layout-laid-requires
+    returns-then-laid-ne-PASSED
+    routine-made-requires
+    returns-then-made-ne-PASSED
     fill-requires
-    registers-met-requires
-    returns-3)
+    registers_met-requires
+    returns)

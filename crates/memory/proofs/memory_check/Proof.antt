@@ -12,26 +12,26 @@ use Rattle.memory.proofs.memory_check.Tie as tie
 
 -- ---- the place past the layout, and what is left to ask there
 
-abbrev start : tie.Else1 → tie.Start
+abbrev start : tie.Else-laid-ne-PASSED → tie.Start
 start c = c.before.before.before.before.before.before.before
 
 abbrev Past : tie.Start → ℕ → Type 0
 Past s = MemoryPast s.args.types.now s.args.tags.now s.args.allocations.now s.args.memory.now
 
-left-1 : (c : tie.Else1) → Past (start c) 1
-left-1 c = after-yes (memory-begins _ _ _ _) c.before.before.layout.ensures c.if1.false
+left-1 : (c : tie.Else-laid-ne-PASSED) → Past (start c) 1
+left-1 c = after-yes (memory-begins _ _ _ _) c.before.before.layout-laid.ensures c.if-laid-ne-PASSED.false
 
-laid : (c : tie.Else1)
+laid : (c : tie.Else-laid-ne-PASSED)
     → let s = (start c).args in layout_ask s.types.now s.tags.now s.allocations.now (length s.memory.now) ≡ ok tt
-laid c = no-refusal _ _ c.before.before.layout.ensures c.if1.false
+laid c = no-refusal _ _ c.before.before.layout-laid.ensures c.if-laid-ne-PASSED.false
 
 -- ---- the needs
 
-layout-requires : tie.Need-layout-requires
-layout-requires c κs = search rules
+layout-laid-requires : tie.Need-layout-laid-requires
+layout-laid-requires c κs = search rules
 
-returns : tie.Need-returns
-returns c = at-no (memory-begins _ _ _ _) c.before.before.layout.ensures c.if1.true
+returns-then-laid-ne-PASSED : tie.Need-returns-then-laid-ne-PASSED
+returns-then-laid-ne-PASSED c = at-no (memory-begins _ _ _ _) c.before.before.layout-laid.ensures c.if-laid-ne-PASSED.true
 
 fill-requires : tie.Need-fill-requires
 fill-requires c κs = layout-can-be-laid _ _ _ _ (laid c.before)
@@ -42,9 +42,9 @@ records-requires c κs =
     let q = laid f.before.before in
     (q, layout-owned _ _ _ _ q 16384 _ refl f.fill.ensures)
 
-returns-2 : tie.Need-returns-2
-returns-2 c = at_last (left-1 c.before.before.before.before) c.records.ensures
+returns : tie.Need-returns
+returns c = at_last (left-1 c.before.before.before.before) c.records.ensures
 
 pub memory_check_spec : {M : Type 1} → statement M
 memory_check_spec =
-    tie.close (tie.spec layout-requires returns fill-requires records-requires returns-2)
+    tie.close (tie.spec layout-laid-requires returns-then-laid-ne-PASSED fill-requires records-requires returns)

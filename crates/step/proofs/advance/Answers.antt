@@ -1,6 +1,5 @@
 -- `step::advance` meets its contract: the register taken over makes the registers those handed back.
 use mathlib.Core.Path.{◌∙◌}
-use borrow.Author.Rules.{rules}
 use Rattle.step.proofs.Instructions.{taken-over}
 use Rattle.step.proofs.advance.Goals as goal
 
@@ -8,4 +7,4 @@ pub returns : goal.returns
 returns c =
     let carried = c.before.before.before.carry_out-s in
     let effect = c.before.before.before.before.before.before.effect_of-e in
-    λ P b j f n d. taken-over b j f n _ _ _ _ _ carried.ensures.1 (carried.ensures.0 b j f n ∙ effect.ensures.0 P b j f n _ d)
+    λ P b j f n d. taken-over b j f n _ _ _ _ _ carried.ensures.others (carried.ensures.does b j f n ∙ effect.ensures.does P b j f n _ d)

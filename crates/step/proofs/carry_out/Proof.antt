@@ -19,7 +19,7 @@ start c = c.before.before.before.before.before.before
 returns : tie.Need-returns
 returns c =
     let r = c.before.before.before.reached-d in
-    let a = (start c).args in record { does = rw c.with-next.ensures (λ b j f n. r.ensures b j f n _); others = set_own a.registers _ a.e.a r.result.v c.with-next.ensures }
+    let a = (start c).args in (rw c.with-next.ensures (λ b j f n. r.ensures b j f n _), set_own a.registers _ a.e.a r.result.v c.with-next.ensures)
 
 pub carry_out_spec : {M : Type 1} → statement M
 carry_out_spec = tie.close (tie.spec reached-d-requires with-next-requires shape_of-memory returns)

@@ -19,7 +19,7 @@ abbrev passed : tie.After-c-c → tie.Else-no-ne-PASSED
 passed c = c.before.before
 
 abbrev known : tie.After-x-1 → tie.After-c-c
-known c = c.before.before.before.before
+known c = c.before.before.before.before.before
 
 ending : (c : tie.Else-no-ne-PASSED) → Ending (start c).args.b (start c).args.count (start c).args.w
 ending c = ending-word _ _ _ _ c.if-no-ne-PASSED.false c.before.form-no.ensures
@@ -30,22 +30,22 @@ record Branch (c : tie.After-x-1) : Type 0 where
   opcode-is : (known c).before.opcode-op.result ≡ opcode_of (start (passed (known c))).args.w
   higher : 10 < opcode_of (start (passed (known c))).args.w
   c-is : (known c).c-c.result ≡ c_of (start (passed (known c))).args.w
-  a-is : c.before.a.result ≡ a_of (start (passed (known c))).args.w
+  a-is : c.a.result ≡ a_of (start (passed (known c))).args.w
 
 branch : (c : tie.After-x-1) → Branch c
 branch c =
     let k = known c in
     let q = ending (passed k) in
     let o = k.before.opcode-op.ensures.0 in
-    let n10 = c.before.before.before.if-op-eq-JUMP.false in
-    let n0 = c.before.before.if-op-eq-HALT.false in
+    let n10 = c.if-op-eq-JUMP.false in
+    let n0 = c.if-op-eq-HALT.false in
     let some : 0 < opcode_of (start (passed k)).args.w = omega (arith, o, n0) in
     record {
       formed = q;
       opcode-is = o;
       higher = omega (arith, q.ends some, o, n10);
       c-is = k.c-c.ensures.0;
-      a-is = c.before.a.ensures.0;
+      a-is = c.a.ensures.0;
     }
 
 -- ---- the needs
@@ -81,7 +81,7 @@ offset_bounds-registers-a : tie.Need-offset_bounds-registers-a
 offset_bounds-registers-a c = search rules
 
 bounds-registers-a : tie.Need-bounds-registers-a
-bounds-registers-a c = omega (arith, (ending (passed c.before.before.before)).a_exists)
+bounds-registers-a c = omega (arith, (ending (passed c.before.before.before.before)).a_exists)
 
 returns-then-x-c : tie.Need-returns-then-x-c
 returns-then-x-c c =

@@ -1,6 +1,5 @@
 -- `step::reached` meets its contract: a law for each return.
 use native.Mathlib.Omega.{arith}
-use borrow.Author.Rules.{rules}
 use Rattle.step.proofs.Instructions.{read_past, read_done, write-past, write_done, not-reached}
 use Rattle.step.proofs.reached.Goals as goal
 

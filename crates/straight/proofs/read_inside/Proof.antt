@@ -11,39 +11,39 @@ use Rattle.straight.proofs.read_inside.Tie as tie
 
 -- ---- places: where the instruction is read, past Q7 and Q8
 
-abbrev passed : tie.After-step-arg6 → tie.Else1
+abbrev passed : tie.After-step-arg-6-1 → tie.Else-no-ne-PASSED
 passed c = c.before.before.before.before.before.before
 
-abbrev start : tie.Else1 → tie.Start
+abbrev start : tie.Else-no-ne-PASSED → tie.Start
 start c = c.before.before.before.before
 
-word-inside : (c : tie.Else1) → Inside 1 (start c).args.i.word
-word-inside c = inside-word _ _ _ _ c.if1.false c.before.form.ensures
+word-inside : (c : tie.Else-no-ne-PASSED) → Inside 1 (start c).args.i.word
+word-inside c = inside-word _ _ _ _ c.if-no-ne-PASSED.false c.form-no.ensures
 
 -- ---- the needs
 
-form-requires : tie.Need-form-requires
-form-requires c κs = search rules
+form-no-requires : tie.Need-form-no-requires
+form-no-requires c κs = search rules
 
 refused-requires : tie.Need-refused-requires
 refused-requires c κs = search rules
 
-returns : tie.Need-returns
-returns c =
+returns-then-no-ne-PASSED : tie.Need-returns-then-no-ne-PASSED
+returns-then-no-ne-PASSED c =
     let t = c.before.before in
-    let f = t.before.form.ensures in
+    let f = t.form-no.ensures in
     let n = number-of c.refused.ensures in
     λ P b. record {
-      outcome = λ place. inside-refuses _ _ _ _ _ _ _ _ _ _ f t.if1.true _ n _;
+      outcome = λ place. inside-refuses _ _ _ _ _ _ _ _ _ _ f t.if-no-ne-PASSED.true _ n _;
       answers = form-answers _ _ _ _ _ (n ∙ f);
-      count = none_more (asked_of c.refused.ensures) (form-unasked _ P b _ _ _ _ _ f t.if1.true);
+      count = none_more (asked_of c.refused.ensures) (form-unasked _ P b _ _ _ _ _ f t.if-no-ne-PASSED.true);
     }
 
 step-requires : tie.Need-step-requires
-step-requires c κs = let e = passed c in let p = (start e).pre in (word-inside e, p.1, p.2, p.3, p.4)
+step-requires c κs = let e = passed c in let p = (start e).requires in (word-inside e, p.1, p.2, p.3, p.4)
 
-returns-2 : tie.Need-returns-2
-returns-2 c =
+returns : tie.Need-returns
+returns c =
     let r = c.step.ensures in
     λ P b. record {
       outcome = λ place. r.outcome place ∙ inside-reads _ _ _ _ _ _ _ (word-inside (passed c.before));
@@ -52,4 +52,4 @@ returns-2 c =
     }
 
 pub read_inside_spec : {M : Type 1} → statement M
-read_inside_spec = tie.close (tie.spec form-requires refused-requires returns step-requires returns-2)
+read_inside_spec = tie.close (tie.spec form-no-requires refused-requires returns-then-no-ne-PASSED step-requires returns)

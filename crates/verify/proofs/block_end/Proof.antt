@@ -16,19 +16,19 @@ use Rattle.verify.proofs.block_end.Tie as tie
 
 -- ---- places: past Q7 to Q9 and Q13, the two rows read
 
-abbrev start : tie.After-may-end → tie.Start
+abbrev start : tie.After-may_end-no → tie.Start
 start c = c.before.before.before.before
 
-abbrev passed : tie.After-in-force → tie.Else1
+abbrev passed : tie.After-in_force-taken → tie.Else-no-ne-PASSED
 passed c = c.before.before
 
-abbrev target : tie.After-in-force2 → tie.After-in-force
+abbrev target : tie.After-in_force-untaken → tie.After-in_force-taken
 target c = c.before.before
 
 -- ---- what is known of the word, and of the rows
 
-ending : (c : tie.Else1) → let s = (start c.before).args in Ending s.b (rows s.blocks.now) s.word
-ending c = end-word _ _ _ _ _ c.before.may-end.ensures c.if1.false
+ending : (c : tie.Else-no-ne-PASSED) → let s = (start c.before).args in Ending s.b (rows s.blocks.now) s.word
+ending c = end-word _ _ _ _ _ c.may_end-no.ensures c.if-no-ne-PASSED.false
 
 to-target : (c : tie.After-target) → c.target.result ≡ target_of (end_of (start c.before.before).args.word)
 to-target c = let e = ending c.before in c.target.ensures e.well e.ends
@@ -36,54 +36,54 @@ to-target c = let e = ending c.before in c.target.ensures e.well e.ends
 taken-row : (c : tie.After-target) → c.target.result * 9 + 9 ≤ length (start c.before.before).args.blocks.now
 taken-row c =
     let s = start c.before.before in
-    target_row s.args.blocks.now _ s.args.word (ending c.before).exist s.pre.1 _ (to-target c)
+    target_row s.args.blocks.now _ s.args.word (ending c.before).exist s.requires.1 _ (to-target c)
 
-untaken-row : (c : tie.After-next-block) → c.next-block.result * 9 + 9 ≤ length (start (passed c.before).before).args.blocks.now
-untaken-row c = omega (arith, c.next-block.ensures)
+untaken-row : (c : tie.After-next_block) → c.next_block.result * 9 + 9 ≤ length (start (passed c.before).before).args.blocks.now
+untaken-row c = omega (arith, c.next_block.ensures)
 
 -- the rows that the last instruction leads to, of a routine with the rows in force
-leading : (c : tie.After-in-force2) (P : Routine) → let s = (start (passed (target c)).before).args in
+leading : (c : tie.After-in_force-untaken) (P : Routine) → let s = (start (passed (target c)).before).args in
     Annotated P s.blocks.now s.offered.now s.f
-    → EdgeRows P s.b (end_of s.word) (target c).in-force.result.now c.in-force2.result.now
+    → EdgeRows P s.b (end_of s.word) (target c).in_force-taken.result.now c.in_force-untaken.result.now
 leading c P A =
     let t = target c in
     let p = passed t in
-    leads _ _ _ (ending p).exist P _ _ A (start p.before).requires.1 _ _ (to-target t.before) c.before.next-block.ensures.1 _ _
-    t.in-force.ensures c.in-force2.ensures
+    leads _ _ _ (ending p).exist P _ _ A (start p.before).requires.1 _ _ (to-target t.before) c.next_block.ensures.1 _ _
+    t.in_force-taken.ensures c.in_force-untaken.ensures
 
 -- ---- the needs
 
-cast-may-end : tie.Need-overflow-cast-may-end
-cast-may-end c = search rules
+overflow_cast-b : tie.Need-overflow_cast-b
+overflow_cast-b c = search rules
 
-cast-may-end-2 : tie.Need-overflow-cast-may-end-2
-cast-may-end-2 c = search rules
+overflow_cast-total : tie.Need-overflow_cast-total
+overflow_cast-total c = search rules
 
-may-end-requires : tie.Need-may-end-requires
-may-end-requires c κs = search rules
+may_end-no-requires : tie.Need-may_end-no-requires
+may_end-no-requires c κs = search rules
 
-returns : tie.Need-returns
-returns c =
-    let m = c.before.may-end.ensures in (
-      λ P A place types views fields since g. end-refuses _ _ _ _ _ _ _ _ _ A.count m c.if1.true,
+returns-then-no-ne-PASSED : tie.Need-returns-then-no-ne-PASSED
+returns-then-no-ne-PASSED c =
+    let m = c.may_end-no.ensures in (
+      λ P A place types views fields since g. end-refuses _ _ _ _ _ _ _ _ _ A.count m c.if-no-ne-PASSED.true,
       end-answers _ _ _ _ _ m,
-      λ P A types views fields since. end-unasked _ _ _ _ _ _ _ A.count m c.if1.true,
+      λ P A types views fields since. end-unasked _ _ _ _ _ _ _ A.count m c.if-no-ne-PASSED.true,
     )
 
 target-requires : tie.Need-target-requires
 target-requires c κs = search rules
 
-cast-in-force : tie.Need-overflow-cast-in-force
-cast-in-force c = search rules
+overflow_cast-target : tie.Need-overflow_cast-target
+overflow_cast-target c = search rules
 
-in-force-requires : tie.Need-in-force-requires
-in-force-requires c κs = let s = start c.before.before in (taken-row c, s.pre.2, s.pre.3)
+in_force-taken-requires : tie.Need-in_force-taken-requires
+in_force-taken-requires c κs = let s = start c.before.before in (taken-row c, s.requires.2, s.requires.3)
 
-next-block-requires : tie.Need-next-block-requires
-next-block-requires c κs = search rules
+next_block-requires : tie.Need-next_block-requires
+next_block-requires c κs = search rules
 
-in-force-requires-2 : tie.Need-in-force-requires-2
-in-force-requires-2 c κs = let s = start (passed c.before).before in (untaken-row c, s.pre.2, s.pre.3)
+in_force-untaken-requires : tie.Need-in_force-untaken-requires
+in_force-untaken-requires c κs = let s = start (passed c.before).before in (untaken-row c, s.requires.2, s.requires.3)
 
 edges-requires : tie.Need-edges-requires
 edges-requires c κs =
@@ -93,35 +93,35 @@ edges-requires c κs =
     let s = start (passed t).before in (
       e.well,
       e.ends,
-      omega (arith, force-length _ _ _ _ (taken-row t.before) s.pre.2 s.pre.3 _ t.in-force.ensures),
-      omega (arith, force-length _ _ _ _ (untaken-row n.before) s.pre.2 s.pre.3 _ n.in-force2.ensures),
+      omega (arith, force-length _ _ _ _ (taken-row t.before) s.requires.2 s.requires.3 _ t.in_force-taken.ensures),
+      omega (arith, force-length _ _ _ _ (untaken-row n.before) s.requires.2 s.requires.3 _ n.in_force-untaken.ensures),
     )
 
-returns-2 : tie.Need-returns-2
-returns-2 c =
+returns : tie.Need-returns
+returns c =
     let n = c.before.before in
     let t = target n in
     let p = passed t in
-    let m = p.before.may-end.ensures in (
+    let m = p.may_end-no.ensures in (
       λ P A place types views fields since g.
-          end_reads _ _ _ _ _ _ _ _ _ A.count m p.if1.left _ (c.edges.ensures.0 _ _ (leading n P A) place types views fields since _),
+          end_reads _ _ _ _ _ _ _ _ _ A.count m p.if-no-ne-PASSED.false _ (c.edges.ensures.0 _ _ (leading n P A) place types views fields since _),
       c.edges.ensures.1,
       λ P A types views fields since.
-          c.edges.ensures.2 _ _ (leading n P A) types views fields since _ ∙ end-asked _ _ _ _ _ _ _ A.count m p.if1.left,
+          c.edges.ensures.2 _ _ (leading n P A) types views fields since _ ∙ end-asked _ _ _ _ _ _ _ A.count m p.if-no-ne-PASSED.false,
     )
 
 pub block_end_spec : {M : Type 1} → statement M
 block_end_spec =
     tie.close
     (tie.spec
-    cast-may-end
-    cast-may-end-2
-    may-end-requires
-    returns
+    overflow_cast-b
+    overflow_cast-total
+    may_end-no-requires
+    returns-then-no-ne-PASSED
     target-requires
-    cast-in-force
-    in-force-requires
-    next-block-requires
-    in-force-requires-2
+    overflow_cast-target
+    in_force-taken-requires
+    next_block-requires
+    in_force-untaken-requires
     edges-requires
-    returns-2)
+    returns)

@@ -12,97 +12,97 @@ use Rattle.verify.proofs.Blocks.{InsideLeft, inside-begins, few-more, inside_on,
 use Rattle.verify.proofs.inside.Statement.{statement}
 use Rattle.verify.proofs.inside.Tie as tie
 
-abbrev invariant-loop : tie.invariant-loop
-invariant-loop rows types tags registers₀ words₀ frames₀ constants₀ part views₀ fields₀ s₀ n j₀ registers words frames constants views fields s j =
+abbrev invariant-loop-j : tie.invariant-loop-j
+invariant-loop-j rows types tags registers₀ words₀ frames₀ constants₀ part views₀ fields₀ s₀ n j₀ registers words frames constants views fields s j =
     InsideLeft (tables_of types tags) part (begun registers₀ words₀ frames₀ constants₀)
     (reading registers words frames constants views fields s.since s.base) s.number s.asked j
 
-abbrev decreases-loop : tie.decreases-loop
-decreases-loop rows types tags registers₀ words₀ frames₀ constants₀ part views₀ fields₀ s₀ n j₀ registers words frames constants views fields s j =
+abbrev decreases-loop-j : tie.decreases-loop-j
+decreases-loop-j rows types tags registers₀ words₀ frames₀ constants₀ part views₀ fields₀ s₀ n j₀ registers words frames constants views fields s j =
     length part - j
 
 -- ---- places: a round of the loop, the instruction read
 
-abbrev start : tie.At-loop invariant-loop decreases-loop → tie.Start invariant-loop decreases-loop
+abbrev start : tie.At-loop-j invariant-loop-j decreases-loop-j → tie.Start invariant-loop-j decreases-loop-j
 start c = c.before.before.before.before
 
-abbrev inside : tie.After-fields invariant-loop decreases-loop → tie.In-loop invariant-loop decreases-loop
+abbrev inside : tie.After-fields-1 invariant-loop-j decreases-loop-j → tie.In-loop-j invariant-loop-j decreases-loop-j
 inside c = c.before.before.before.before.before.before.before
 
-abbrev round : tie.After-read-inside invariant-loop decreases-loop → tie.At-loop invariant-loop decreases-loop
+abbrev round : tie.After-read_inside-s invariant-loop-j decreases-loop-j → tie.At-loop-j invariant-loop-j decreases-loop-j
 round c = (inside c.before).before
 
-before_last : (c : tie.After-read-inside invariant-loop decreases-loop) → (round c).loop.j + 1 < length (start (round c)).args.part.now
-before_last c = omega (arith, (inside c.before).loop-test)
+before_last : (c : tie.After-read_inside-s invariant-loop-j decreases-loop-j) → (round c).loop-j.j + 1 < length (start (round c)).args.part.now
+before_last c = omega (arith, (inside c.before).loop-j-test)
 
-small : (c : tie.At-loop invariant-loop decreases-loop) (t : ℕ) → (tables_of (start c).args.types.now (start c).args.tags.now).size t ≤ 8
+small : (c : tie.At-loop-j invariant-loop-j decreases-loop-j) (t : ℕ) → (tables_of (start c).args.types.now (start c).args.tags.now).size t ≤ 8
 small c t = rw (tables-size (start c).args.types.now (start c).args.tags.now t) ((start c).requires.1.small t)
 
 -- ---- the needs
 
-loop-holds : tie.Need-loop-init invariant-loop decreases-loop
-loop-holds c = inside-begins _ _ _ (omega arith)
+loop-j-init : tie.Need-loop-j-init invariant-loop-j decreases-loop-j
+loop-j-init c = inside-begins _ _ _ (omega arith)
 
-add-loop : tie.Need-overflow-add-loop invariant-loop decreases-loop
-add-loop c = omega arith
+overflow_add-j : tie.Need-overflow_add-j invariant-loop-j decreases-loop-j
+overflow_add-j c = omega arith
 
-mul-word : tie.Need-overflow-mul-word invariant-loop decreases-loop
-mul-word c = omega arith
+offset_bounds-part-j : tie.Need-offset_bounds-part-j invariant-loop-j decreases-loop-j
+offset_bounds-part-j c = omega arith
 
-shared-slice-read-word : tie.Need-shared-slice-read-word invariant-loop decreases-loop
-shared-slice-read-word c = omega arith
+bounds-part-j : tie.Need-bounds-part-j invariant-loop-j decreases-loop-j
+bounds-part-j c = omega arith
 
-add-g : tie.Need-overflow-add-g invariant-loop decreases-loop
-add-g c = omega arith
+overflow_add-g : tie.Need-overflow_add-g invariant-loop-j decreases-loop-j
+overflow_add-g c = omega arith
 
-read-inside-requires : tie.Need-read-inside-requires invariant-loop decreases-loop
-read-inside-requires c κs =
+read_inside-s-requires : tie.Need-read_inside-s-requires invariant-loop-j decreases-loop-j
+read_inside-s-requires c κs =
     let r = (inside c).before in
-    let p = (start r).pre in
-    (p.0, omega arith, r.loop.inv.none, p.1, omega (arith, r.loop.inv.few))
+    let p = (start r).requires in
+    (p.0, omega arith, r.loop-j.invariant.none, p.1, omega (arith, r.loop-j.invariant.few))
 
-reached-requires : tie.Need-reached-requires invariant-loop decreases-loop
+reached-requires : tie.Need-reached-requires invariant-loop-j decreases-loop-j
 reached-requires c κs = tt
 
-returns : tie.Need-returns invariant-loop decreases-loop
-returns c =
+returns-then-s-ne-PASSED : tie.Need-returns-then-s-ne-PASSED invariant-loop-j decreases-loop-j
+returns-then-s-ne-PASSED c =
     let t = c.before in
     let e = t.before.before in
     let r = round e in
-    let s = e.read-inside.ensures in
-    let few = few-more r.loop.inv _ _ _ (before_last e) (λ P b. (s P b).outcome) (λ P b. (s P b).count) (small r) in
+    let s = e.read_inside-s.ensures in
+    let few = few-more r.loop-j.invariant _ _ _ (before_last e) (λ P b. (s P b).outcome) (λ P b. (s P b).count) (small r) in
     rw c.reached.ensures (
       λ P b first B. record {
         views = _;
         fields = _;
         since = _;
-        left = inside-stops r.loop.inv _ _ _ (before_last e) (λ P b. (s P b).outcome) (λ P b. (s P b).count) t.if1.true P b first B;
+        left = inside-stops r.loop-j.invariant _ _ _ (before_last e) (λ P b. (s P b).outcome) (λ P b. (s P b).count) t.if-s-ne-PASSED.true P b first B;
         answers = (s P b).answers;
       },
-      record { inside = omega (arith, before_last e); end = λ z. absurd (t.if1.true z); few = omega arith },
+      record { inside = omega (arith, before_last e); end = λ z. absurd (t.if-s-ne-PASSED.true z); few = omega arith },
     )
 
-add-j : tie.Need-overflow-add-j invariant-loop decreases-loop
-add-j c = omega arith
+overflow_add-j-in-loop-j : tie.Need-overflow_add-j-in-loop-j invariant-loop-j decreases-loop-j
+overflow_add-j-in-loop-j c = omega arith
 
-loop-less : tie.Need-loop-smaller invariant-loop decreases-loop
-loop-less c = omega arith
+loop-j-smaller : tie.Need-loop-j-smaller invariant-loop-j decreases-loop-j
+loop-j-smaller c = omega arith
 
-loop-again : tie.Need-loop-preserved invariant-loop decreases-loop
-loop-again c =
+loop-j-preserved : tie.Need-loop-j-preserved invariant-loop-j decreases-loop-j
+loop-j-preserved c =
     let e = c.before.before in
-    let s = e.read-inside.ensures in
-    inside_on (round e).loop.invariant _ _ _ (before_last e) (λ P b. (s P b).outcome) (λ P b. (s P b).count) (small (round e)) c.if1.false
+    let s = e.read_inside-s.ensures in
+    inside_on (round e).loop-j.invariant _ _ _ (before_last e) (λ P b. (s P b).outcome) (λ P b. (s P b).count) (small (round e)) c.if-s-ne-PASSED.false
 
-reached-requires-2 : tie.Need-reached-requires-2 invariant-loop decreases-loop
+reached-requires-2 : tie.Need-reached-requires-2 invariant-loop-j decreases-loop-j
 reached-requires-2 c κs = tt
 
-returns-2 : tie.Need-returns-2 invariant-loop decreases-loop
-returns-2 c =
+returns : tie.Need-returns invariant-loop-j decreases-loop-j
+returns c =
     let r = c.before.before in
-    let l = r.loop.invariant in
-    let e : r.loop.j + 1 ≡ length (start r).args.part.now = omega arith in
-    rw c.reached2.ensures (
+    let l = r.loop-j.invariant in
+    let e : r.loop-j.j + 1 ≡ length (start r).args.part.now = omega arith in
+    rw c.reached-2.ensures (
       λ P b first B. record { views = _; fields = _; since = _; left = inside-ends l e P b first B; answers = answer-none _ l.none },
       record { inside = omega arith; end = λ z. e; few = omega (arith, l.few) },
     )
@@ -111,18 +111,18 @@ pub inside_spec : {M : Type 1} → statement M
 inside_spec =
     tie.close
     (tie.spec
-    invariant-loop
-    decreases-loop
-    loop-holds
-    add-loop
-    mul-word
-    shared-slice-read-word
-    add-g
-    read-inside-requires
+    invariant-loop-j
+    decreases-loop-j
+    loop-j-init
+    overflow_add-j
+    offset_bounds-part-j
+    bounds-part-j
+    overflow_add-g
+    read_inside-s-requires
     reached-requires
-    returns
-    add-j
-    loop-less
-    loop-again
+    returns-then-s-ne-PASSED
+    overflow_add-j-in-loop-j
+    loop-j-smaller
+    loop-j-preserved
     reached-requires-2
-    returns-2)
+    returns)

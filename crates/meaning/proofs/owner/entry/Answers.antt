@@ -1,7 +1,6 @@
 -- `meaning::owner::entry` meets its contract, where a run goes on and where it ends.
 use mathlib.Core.Path.{sym, ◌∙◌}
 use Rattle.meaning.proofs.Owners.{entry-goes-on, entry-ends}
-use borrow.Author.Rules.{rules}
 use Rattle.meaning.proofs.owner.entry.Goals as goal
 
 pub returns-then-starts : goal.returns-then-starts

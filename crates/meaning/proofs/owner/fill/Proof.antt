@@ -67,10 +67,10 @@ entry-own-requires : tie.Need-entry-own-requires invariant-loop-k decreases-loop
 entry-own-requires c κs = omega (arith, c.head-n.ensures, (start (round (read c))).requires.few, placed (read c))
 
 overflow_cast-owners : tie.Need-overflow_cast-owners invariant-loop-k decreases-loop-k
-overflow_cast-owners c = omega (arith, placed (read c.before.before))
+overflow_cast-owners c = omega (arith, placed (read c.before))
 
 offset_bounds-owners-p : tie.Need-offset_bounds-owners-p invariant-loop-k decreases-loop-k
-offset_bounds-owners-p c = omega (arith, placed (read c.before.before))
+offset_bounds-owners-p c = omega (arith, placed (read c.before))
 
 bounds-owners-p : tie.Need-bounds-owners-p invariant-loop-k decreases-loop-k
 bounds-owners-p c = omega (arith, placed (read c.before.before))

@@ -1,6 +1,5 @@
 -- `meaning::owner::owner` meets its contract, within the addresses and past them.
 use Rattle.meaning.proofs.Owners.{owner-far, owner-near}
-use borrow.Author.Rules.{rules}
 use Rattle.meaning.proofs.owner.owner.Goals as goal
 
 pub returns-then-at-ge-MEMORY : goal.returns-then-at-ge-MEMORY

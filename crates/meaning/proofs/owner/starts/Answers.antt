@@ -3,7 +3,6 @@ use mathlib.Core.Path.{ap}
 use Prim.Native.Nat.{ℕ, ◌+◌, ◌/◌}
 use lib.Dec.{eqb}
 use Rattle.meaning.specs.Owners.{starts_at}
-use borrow.Author.Rules.{rules}
 use Rattle.meaning.proofs.owner.starts.Goals as goal
 
 pub returns : goal.returns

@@ -1,0 +1,7 @@
+-- `access::name_all` meets its contract.
+use borrow.Author.Rules.{rules}
+use Rattle.access.proofs.Fields.{names-are}
+use Rattle.access.proofs.name_all.Goals as goal
+
+pub returns : goal.returns
+returns c = names-are _

@@ -1,0 +1,6 @@
+-- `branch::edge` meets its contract.
+use borrow.Author.Rules.{rules}
+use Rattle.branch.proofs.edge.Goals as goal
+
+pub returns : goal.returns
+returns c = λ types. c.row_fits.ensures types _ _ c.test-test.ensures
