@@ -132,6 +132,9 @@ module _ (types tags : List ℕ) (C : Code) (offered : List ℕ) (blanks : Three
     where
       no-choice : {k : List ℕ} → Shape blanks k → (d : List ℕ) → Choice 0 (length k) d → ⊥
       no-choice (no-blank x y z) d D = omega (arith, O.some)
+      no-choice (one-blank x u y z) [] D = elim D [ ]
+      no-choice (two-blank x u y v z) [] D = elim D [ ]
+      no-choice (three-blank x u y v z t) [] D = elim D [ ]
       no-choice (one-blank x u y z) (j ∷ js) (more h D) = omega arith
       no-choice (two-blank x u y v z) (j ∷ js) (more h D) = omega arith
       no-choice (three-blank x u y v z t) (j ∷ js) (more h D) = omega arith

@@ -3,6 +3,8 @@
 // Choices go by number: that of places p, q and r for the three blank blocks is p * 64 + q * 8 + r, so that an earlier choice has a lesser
 // number. Judging a block reads no rows but its own, its target's and the next block's. So a block is judged once for each choice of these,
 // and not once for each choice; a no strikes out all choices with the same of these rows.
+#![tactic(auto)]
+
 ghost use Rattle.std.specs.Prelude.{◌≡◌, true, not, [], ℕ, ◌+◌, ◌*◌, ◌/◌, ◌%◌, ◌≤◌, ◌<◌, length, ltb, eqb};
 ghost use Rattle.model.specs.Question.{◌and◌, pick};
 ghost use Rattle.model.specs.Table.{code_of, Routine, tables_of};

@@ -1,5 +1,7 @@
 // The six calls for C and Rust: a table is a pointer and a length, an answer is a number returned and words that the caller lends.
 // Each contract is the call's own, with the words that it fills.
+#![tactic(auto)]
+
 ghost use Rattle.std.specs.Prelude.{◌≡◌};
 ghost use Rattle.model.specs.Table.{code_of};
 ghost use Rattle.model.specs.Machine.{run, ready};

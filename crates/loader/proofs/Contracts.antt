@@ -5,7 +5,7 @@ use mathlib.Core.Logic.{◌↔◌}
 use mathlib.Core.List.{List}
 use Prim.Native.Nat.{ℕ}
 use contract.Lifetimes.{Lfts}
-use denote.Ref.{Bor}
+use denote.Ref.{Bor, MutBor}
 use denote.Triple.Clauses.{Lasts, at_exit}
 use denote.Triple.Entry.{Args}
 use Rattle.model.specs.declared.Verdict.{Verdict}
@@ -28,9 +28,12 @@ use Rattle.loader.proofs.entry_check.Reads as entry-check-read
 use Rattle.loader.specs.contracts.run
 use Rattle.loader.proofs.run.Reads as run-read
 
--- words that a call is lent
+-- words that a call is lent, to read and to write
 abbrev Lent : Type 0
 Lent = Bor (List ℕ)
+
+abbrev LentMut : Type 0
+LentMut = MutBor (List ℕ)
 
 module _ (κs : Lfts 4) (types tags blocks code : Lent) where
   abbrev to-check : Args check.signature κs
@@ -55,12 +58,13 @@ module _ (κs : Lfts 5) (types tags blocks code offered : Lent) where
 
   pub check-offered-gives : (a : OfferedAnswer) (last : Lasts check_offered.ended κs to-check-offered)
       → check-offered-read.Learnt κs to-check-offered a (at_exit check_offered.ended κs to-check-offered last)
-      ↔ OfferedCheckGave types.now tags.now (code_of blocks.now code.now) (offered .now) a
+      ↔ OfferedCheckGave types.now tags.now (code_of blocks.now code.now) offered.now a
   check-offered-gives a last = (λ l. l, λ g. g)
 
   pub check-offered-lent : (last : Lasts check_offered.ended κs to-check-offered) → at_exit check_offered.ended κs to-check-offered last ≡ to-check-offered
   check-offered-lent last = refl
 
+module _ (κs : Lfts 5) (types tags : Lent) (blocks : LentMut) (code offered : Lent) where
   abbrev to_fill : Args fill.signature κs
   to_fill = (types, (tags, (blocks, (code, (offered, tt)))))
 
@@ -69,7 +73,7 @@ module _ (κs : Lfts 5) (types tags blocks code offered : Lent) where
 
   pub fill_gives : (a : OfferedAnswer) (last : Lasts fill.ended κs to_fill)
       → fill-read.Learnt κs to_fill a (at_exit fill.ended κs to_fill last)
-      ↔ FillGave types.now tags.now (code_of blocks.now code.now) (offered .now) a (at_exit fill.ended κs to_fill last).1.1.0.now
+      ↔ FillGave types.now tags.now (code_of blocks.now code.now) offered.now a (at_exit fill.ended κs to_fill last).1.1.0.now
   fill_gives a last = (λ l. l, λ g. g)
 
   -- of its tables it writes the block table alone
@@ -86,7 +90,7 @@ module _ (κs : Lfts 4) (types tags allocations memory : Lent) where
 
   pub memory-check-gives : (v : Verdict) (last : Lasts memory_check.ended κs to-memory-check)
       → memory-check-read.Learnt κs to-memory-check v (at_exit memory_check.ended κs to-memory-check last)
-      ↔ MemoryCheckGave types.now tags.now allocations.now (memory .now) v (at_exit memory_check.ended κs to-memory-check last).1.1.1.0.now
+      ↔ MemoryCheckGave types.now tags.now allocations.now memory.now v (at_exit memory_check.ended κs to-memory-check last).1.1.1.0.now
   memory-check-gives v last = (λ l. (l, refl), λ g. g.0)
 
   pub memory-check-lent : (last : Lasts memory_check.ended κs to-memory-check) → at_exit memory_check.ended κs to-memory-check last ≡ to-memory-check
@@ -101,14 +105,14 @@ module _ (κs : Lfts 6) (types tags allocations memory blocks code : Lent) (b : 
 
   pub entry-check-gives : (v : Verdict) (last : Lasts entry_check.ended κs to-entry-check)
       → entry-check-read.Learnt κs to-entry-check v (at_exit entry_check.ended κs to-entry-check last)
-      ↔ EntryCheckGave types.now tags.now allocations.now (memory .now) (code_of blocks.now code.now) (ready b r) v
+      ↔ EntryCheckGave types.now tags.now allocations.now memory.now (code_of blocks.now code.now) (ready b r) v
       (at_exit entry_check.ended κs to-entry-check last).1.1.1.0.now
   entry-check-gives v last = (λ l. (l, refl), λ g. g.0)
 
   pub entry-check-lent : (last : Lasts entry_check.ended κs to-entry-check) → at_exit entry_check.ended κs to-entry-check last ≡ to-entry-check
   entry-check-lent last = refl
 
-module _ (κs : Lfts 3) (blocks code memory : Lent) (b : ℕ) (r : List ℕ) (budget : ℕ) where
+module _ (κs : Lfts 3) (blocks code : Lent) (memory : LentMut) (b : ℕ) (r : List ℕ) (budget : ℕ) where
   abbrev to-run : Args run.signature κs
   to-run = (blocks, (code, (memory, (b, (r, (budget, tt))))))
 
@@ -117,7 +121,7 @@ module _ (κs : Lfts 3) (blocks code memory : Lent) (b : ℕ) (r : List ℕ) (bu
 
   pub run-gives : (a : RunAnswer) (last : Lasts run.ended κs to-run)
       → run-read.Learnt κs to-run a (at_exit run.ended κs to-run last)
-      ↔ RunGave (code_of blocks.now code.now) (memory .now) (ready b r) budget a (at_exit run.ended κs to-run last).1.1.0.now
+      ↔ RunGave (code_of blocks.now code.now) memory.now (ready b r) budget a (at_exit run.ended κs to-run last).1.1.0.now
   run-gives a last = (λ l. l, λ g. g)
 
   pub run_lent : (last : Lasts run.ended κs to-run) → ((at_exit run.ended κs to-run last).0 ≡ blocks) × ((at_exit run.ended κs to-run last).1.0 ≡ code)

@@ -2,6 +2,8 @@
 // and run.
 // specs/Delivery.antt states demand 3 of them, with relations that proofs/Contracts.antt shows to be these contracts; proofs/Delivered.antt
 // proves it.
+#![tactic(auto)]
+
 ghost use Rattle.std.specs.Prelude.{◌≡◌};
 ghost use Rattle.model.specs.Table.{code_of};
 ghost use Rattle.model.specs.Machine.{run, ready, returned};

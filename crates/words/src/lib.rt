@@ -1,5 +1,7 @@
 // Answers in words: for each number its name, its meaning, the usual cause, how to mend it and what its place counts. The program's
 // words and docs/REFUSALS.md are both made from here.
+#![tactic(auto)]
+
 mod rows;
 
 ghost use Rattle.std.specs.Prelude.{◌+◌, ◌≤◌};

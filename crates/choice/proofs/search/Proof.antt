@@ -14,48 +14,48 @@ use Rattle.choice.proofs.Choosing.{LeftSo, left-ones, left-on, search-stops, sea
 use Rattle.choice.proofs.search.Statement.{statement}
 use Rattle.choice.proofs.search.Tie as tie
 
-abbrev invariant-loop : tie.invariant-loop
-invariant-loop types tags blocks offered blanks m code starts table count left₀ b₀ left b =
+abbrev invariant-loop-b : tie.invariant-loop-b
+invariant-loop-b types tags blocks offered blanks m code starts table count left₀ b₀ left b =
     ((P : ℕ → Routine) → Routines P (code_of blocks code) offered blanks m → LeftSo (tables_of types tags) P m left b)
     × (table ≡ opcode_rows) × (b ≤ rows blocks) × (length left ≡ 512)
 
-abbrev decreases-loop : tie.decreases-loop
-decreases-loop types tags blocks offered blanks m code starts table count left₀ b₀ left b = rows blocks - b
+abbrev decreases-loop-b : tie.decreases-loop-b
+decreases-loop-b types tags blocks offered blanks m code starts table count left₀ b₀ left b = rows blocks - b
 
 -- ---- places, and what is known of the tables and of the block
 
-abbrev start : tie.At-loop invariant-loop decreases-loop → tie.Start invariant-loop decreases-loop
+abbrev start : tie.At-loop-b invariant-loop-b decreases-loop-b → tie.Start invariant-loop-b decreases-loop-b
 start c = c.before.before.before.before.before.before.before
 
-abbrev inside : tie.After-rows invariant-loop decreases-loop → tie.In-loop invariant-loop decreases-loop
-inside c = c.before.before.before
+abbrev inside : tie.After-rows-1 invariant-loop-b decreases-loop-b → tie.In-loop-b invariant-loop-b decreases-loop-b
+inside c = c.before.before.before.before
 
-abbrev called : tie.After-narrow invariant-loop decreases-loop → tie.In-loop invariant-loop decreases-loop
+abbrev called : tie.After-narrow invariant-loop-b decreases-loop-b → tie.In-loop-b invariant-loop-b decreases-loop-b
 called c = inside c.before.before.before
 
-abbrev blocks : tie.In-loop invariant-loop decreases-loop → List ℕ
+abbrev blocks : tie.In-loop-b invariant-loop-b decreases-loop-b → List ℕ
 blocks c = (start c.before).args.blocks.now
 
-abbrev code : tie.In-loop invariant-loop decreases-loop → List ℕ
+abbrev code : tie.In-loop-b invariant-loop-b decreases-loop-b → List ℕ
 code c = (start c.before).args.code.now
 
-abbrev block : tie.In-loop invariant-loop decreases-loop → ℕ
-block c = c.before.loop.b
+abbrev block : tie.In-loop-b invariant-loop-b decreases-loop-b → ℕ
+block c = c.loop-b.b
 
-abbrev first : tie.In-loop invariant-loop decreases-loop → ℕ
+abbrev first : tie.In-loop-b invariant-loop-b decreases-loop-b → ℕ
 first c = get_or (start c.before).args.starts.now (block c) 0
 
-abbrev end : tie.In-loop invariant-loop decreases-loop → ℕ
+abbrev end : tie.In-loop-b invariant-loop-b decreases-loop-b → ℕ
 end c = get_or (start c.before).args.starts.now (block c + 1) 0
 
-passed : (c : tie.In-loop invariant-loop decreases-loop) → Tabled (start c.before).args.types.now (code_of (blocks c) (code c))
-passed c = (start c.before).pre.0
+passed : (c : tie.In-loop-b invariant-loop-b decreases-loop-b) → Tabled (start c.before).args.types.now (code_of (blocks c) (code c))
+passed c = (start c.before).requires.0
 
-placed : (c : tie.In-loop invariant-loop decreases-loop) → Placed (code_of (blocks c) (code c)) (first c) (end c) (block c)
-placed c = placed_at (code_of (blocks c) (code c)) (start c.before).args.starts.now (block c) (passed c) (start c.before).pre.1 (omega arith)
+placed : (c : tie.In-loop-b invariant-loop-b decreases-loop-b) → Placed (code_of (blocks c) (code c)) (first c) (end c) (block c)
+placed c = placed_at (code_of (blocks c) (code c)) (start c.before).args.starts.now (block c) (passed c) (start c.before).requires.1 (omega arith)
 
 -- the block at hand, of the routines that the choices make
-here : (c : tie.In-loop invariant-loop decreases-loop) (P : ℕ → Routine) → let s = (start c.before).args in
+here : (c : tie.In-loop-b invariant-loop-b decreases-loop-b) (P : ℕ → Routine) → let s = (start c.before).args in
     Routines P (code_of (blocks c) (code c)) s.offered.now s.blanks s.m
     → BlockOf P (blocks c) s.offered.now s.blanks s.m (block c) (first c) (take (end c - first c) (drop (first c) (code c)))
 here c P R =
@@ -67,52 +67,52 @@ here c P R =
 
 -- ---- the needs
 
-opcode-rows-requires : tie.Need-opcode-rows-requires invariant-loop decreases-loop
-opcode-rows-requires c κs = tt
+opcode_rows-rows-requires : tie.Need-opcode_rows-rows-requires invariant-loop-b decreases-loop-b
+opcode_rows-rows-requires c κs = tt
 
-loop-holds : tie.Need-loop-init invariant-loop decreases-loop
-loop-holds c = (λ P R. left-ones _ P _, c.opcode-rows.ensures, omega arith, refl)
+loop-b-init : tie.Need-loop-b-init invariant-loop-b decreases-loop-b
+loop-b-init c = (λ P R. left-ones _ P _, c.opcode_rows-rows.ensures, omega arith, refl)
 
-mul-first : tie.Need-overflow-mul-first invariant-loop decreases-loop
-mul-first c = omega (arith, (passed c).most)
+offset_bounds-starts-b : tie.Need-offset_bounds-starts-b invariant-loop-b decreases-loop-b
+offset_bounds-starts-b c = omega (arith, (passed c).most)
 
-element-copy-out-first : tie.Need-element-copy-out-first invariant-loop decreases-loop
-element-copy-out-first c = omega (arith, (passed c).most)
+bounds-starts-b : tie.Need-bounds-starts-b invariant-loop-b decreases-loop-b
+bounds-starts-b c = omega (arith, (passed c.before).most)
 
-cast-first : tie.Need-overflow-cast-first invariant-loop decreases-loop
-cast-first c = omega (arith, placed c.before)
+overflow_cast-first : tie.Need-overflow_cast-first invariant-loop-b decreases-loop-b
+overflow_cast-first c = omega (arith, placed c.before.before)
 
-add-end : tie.Need-overflow-add-end invariant-loop decreases-loop
-add-end c = omega (arith, (passed c.before).most)
+overflow_add-end : tie.Need-overflow_add-end invariant-loop-b decreases-loop-b
+overflow_add-end c = omega (arith, (passed c.before.before).most)
 
-mul-end : tie.Need-overflow-mul-end invariant-loop decreases-loop
-mul-end c = omega (arith, (passed c.before).most)
+offset_bounds-starts-b-in-loop-b : tie.Need-offset_bounds-starts-b-in-loop-b invariant-loop-b decreases-loop-b
+offset_bounds-starts-b-in-loop-b c = omega (arith, (passed c.before.before).most)
 
-element-copy-out-end : tie.Need-element-copy-out-end invariant-loop decreases-loop
-element-copy-out-end c = omega (arith, (passed c.before).most)
+bounds-starts-b-in-loop-b : tie.Need-bounds-starts-b-in-loop-b invariant-loop-b decreases-loop-b
+bounds-starts-b-in-loop-b c = omega (arith, (passed c.before.before).most)
 
-cast-end : tie.Need-overflow-cast-end invariant-loop decreases-loop
-cast-end c = omega (arith, placed c.before.before)
+overflow_cast-end : tie.Need-overflow_cast-end invariant-loop-b decreases-loop-b
+overflow_cast-end c = omega (arith, placed c.before.before.before)
 
-mul-narrow : tie.Need-overflow-mul-narrow invariant-loop decreases-loop
-mul-narrow c = omega (arith, placed (inside c))
+offset_bounds-code-first : tie.Need-offset_bounds-code-first invariant-loop-b decreases-loop-b
+offset_bounds-code-first c = omega (arith, placed (inside c))
 
-sub_narrow : tie.Need-overflow-sub-narrow invariant-loop decreases-loop
-sub_narrow c = omega (arith, placed (inside c))
+slice_bounds-narrow-count : tie.Need-slice_bounds-narrow-count invariant-loop-b decreases-loop-b
+slice_bounds-narrow-count c = omega (arith, placed (inside c))
 
-part-narrow-start : tie.Need-slice-bounds-narrow-start invariant-loop decreases-loop
-part-narrow-start c = omega (arith, placed (inside c))
+slice_bounds-narrow-start : tie.Need-slice_bounds-narrow-start invariant-loop-b decreases-loop-b
+slice_bounds-narrow-start c = omega (arith, placed (inside c))
 
-part-narrow-end : tie.Need-slice-bounds-narrow-end invariant-loop decreases-loop
-part-narrow-end c = omega (arith, placed (inside c))
+slice_bounds-narrow-end : tie.Need-slice_bounds-narrow-end invariant-loop-b decreases-loop-b
+slice_bounds-narrow-end c = omega (arith, placed (inside c))
 
-narrow-requires : tie.Need-narrow-requires invariant-loop decreases-loop
+narrow-requires : tie.Need-narrow-requires invariant-loop-b decreases-loop-b
 narrow-requires c κs =
     let i = inside c.before.before in
     let p = placed i in
     let t = passed i in
     let l = block-long (blocks i) (code i) (block i) (first i) (end i) p.from p.to p.inside in
-    let v = i.before.loop.inv in (
+    let v = i.loop-b.invariant in (
       record {
         opcodes = v.1;
         sizes = t.sizes;
@@ -122,68 +122,68 @@ narrow-requires c κs =
         long = omega (arith, p);
         near = omega (arith, p);
       },
-      (start i.before).pre.2,
+      (start i.before).requires.2,
       v.3,
     )
 
-returns : tie.Need-returns invariant-loop decreases-loop
-returns c =
+returns-then-not-narrow : tie.Need-returns-then-not-narrow invariant-loop-b decreases-loop-b
+returns-then-not-narrow c =
     let k = c.before in
     let i = called k in
     λ P R.
     search-stops _ P _ (rows (blocks i)) (λ j h x. (R.annotated j h x).count) _ _ (block i) _ (omega arith)
-    (k.narrow.ensures.1 P (here i P R)) (test-false refl c.if1.true)
+    (k.narrow.ensures.1 P (here i P R)) (test-false refl c.if-not-narrow.true-raw)
 
-add-b : tie.Need-overflow-add-b invariant-loop decreases-loop
-add-b c = omega (arith, (passed (called c.before)).most)
+overflow_add-b : tie.Need-overflow_add-b invariant-loop-b decreases-loop-b
+overflow_add-b c = omega (arith, (passed (called c.before)).most)
 
-loop-less : tie.Need-loop-smaller invariant-loop decreases-loop
-loop-less c = omega arith
+loop-b-smaller : tie.Need-loop-b-smaller invariant-loop-b decreases-loop-b
+loop-b-smaller c = omega arith
 
-loop-again : tie.Need-loop-preserved invariant-loop decreases-loop
-loop-again c =
+loop-b-preserved : tie.Need-loop-b-preserved invariant-loop-b decreases-loop-b
+loop-b-preserved c =
     let k = c.before in
     let i = called k in
-    let l = i.before.loop in (
-      λ P R. left-on _ P _ _ _ (block i) _ (l.inv.0 P R) (k.narrow.ensures.1 P (here i P R)) (test-true refl c.if1.false),
-      l.inv.1,
+    let l = i.loop-b in (
+      λ P R. left-on _ P _ _ _ (block i) _ (l.invariant.0 P R) (k.narrow.ensures.1 P (here i P R)) (test-true refl c.if-not-narrow.false-raw),
+      l.invariant.1,
       omega arith,
       k.narrow.ensures.0,
     )
 
-first-left-requires : tie.Need-first-left-requires invariant-loop decreases-loop
-first-left-requires c κs = c.before.before.loop.invariant.3
+first_left-requires : tie.Need-first_left-requires invariant-loop-b decreases-loop-b
+first_left-requires c κs = c.loop-b.invariant.3
 
-returns-2 : tie.Need-returns-2 invariant-loop decreases-loop
-returns-2 c =
+returns : tie.Need-returns invariant-loop-b decreases-loop-b
+returns c =
     let l = c.before.before.before in
     λ P R.
-    search-ends _ P _ (rows (start l).args.blocks.now) (λ j h x. (R.annotated j h x).count) _ l.loop.b _ (l.loop.invariant.0 P R) (omega arith)
-    c.first-left.ensures
+    search-ends _ P _ (rows (start l).args.blocks.now) (λ j h x. (R.annotated j h x).count) _ l.loop-b.b _ (l.loop-b.invariant.0 P R) (omega arith)
+    c.first_left.ensures
 
 pub search_spec : {M : Type 1} → statement M
 search_spec =
     tie.close
     (tie.spec
-    invariant-loop
-    decreases-loop
-    opcode-rows-requires
-    loop-holds
-    mul-first
-    element-copy-out-first
-    cast-first
-    add-end
-    mul-end
-    element-copy-out-end
-    cast-end
-    mul-narrow
-    sub_narrow
-    part-narrow-start
-    part-narrow-end
+    invariant-loop-b
+    decreases-loop-b
+    opcode_rows-rows-requires
+    loop-b-init
+    offset_bounds-starts-b
+    bounds-starts-b
+    overflow_cast-first
+    overflow_add-end
+    offset_bounds-starts-b-in-loop-b
+    bounds-starts-b-in-loop-b
+    overflow_cast-end
+    offset_bounds-code-first
+    slice_bounds-narrow-count
+    slice_bounds-narrow-start
+    slice_bounds-narrow-end
     narrow-requires
-    returns
-    add-b
-    loop-less
-    loop-again
-    first-left-requires
-    returns-2)
+    returns-then-not-narrow
+    overflow_add-b
+    loop-b-smaller
+    loop-b-preserved
+    first_left-requires
+    returns)

@@ -8,61 +8,61 @@ use Rattle.choice.proofs.Choosing.{struck-none, struck-on}
 use Rattle.choice.proofs.strike.Statement.{statement}
 use Rattle.choice.proofs.strike.Tie as tie
 
-abbrev invariant-loop : tie.invariant-loop
-invariant-loop left₀ passed w i₀ left i = Struck w passed left₀ left i × (i ≤ 512)
+abbrev invariant-loop-i : tie.invariant-loop-i
+invariant-loop-i left₀ passed w i₀ left i = Struck w passed left₀ left i × (i ≤ 512)
 
-abbrev decreases-loop : tie.decreases-loop
-decreases-loop left₀ passed w i₀ left i = 512 - i
+abbrev decreases-loop-i : tie.decreases-loop-i
+decreases-loop-i left₀ passed w i₀ left i = 512 - i
 
-abbrev round : tie.After-still invariant-loop decreases-loop → tie.In-loop invariant-loop decreases-loop
-round c = c.before.before.before.before
+abbrev round : tie.After-still invariant-loop-i decreases-loop-i → tie.In-loop-i invariant-loop-i decreases-loop-i
+round c = c.before.before.before.before.before.before
 
-loop-holds : tie.Need-loop-init invariant-loop decreases-loop
-loop-holds c = (struck-none _ _ _, omega arith)
+loop-i-init : tie.Need-loop-i-init invariant-loop-i decreases-loop-i
+loop-i-init c = (struck-none _ _ _, omega arith)
 
-element-copy-out-still : tie.Need-element-copy-out-still invariant-loop decreases-loop
-element-copy-out-still c = omega arith
+bounds-left-i : tie.Need-bounds-left-i invariant-loop-i decreases-loop-i
+bounds-left-i c = omega arith
 
-least-alike-requires : tie.Need-least-alike-requires invariant-loop decreases-loop
-least-alike-requires c κs = (omega arith, c.before.before.before.requires.2)
+least_alike-requires : tie.Need-least_alike-requires invariant-loop-i decreases-loop-i
+least_alike-requires c κs = (omega arith, c.requires.2)
 
-element-copy-out-still-2 : tie.Need-element-copy-out-still-2 invariant-loop decreases-loop
-element-copy-out-still-2 c = omega (arith, c.least-alike.ensures.1)
+bounds-passed-least_alike : tie.Need-bounds-passed-least_alike invariant-loop-i decreases-loop-i
+bounds-passed-least_alike c = omega (arith, c.least_alike.ensures.1)
 
-still-requires : tie.Need-still-requires invariant-loop decreases-loop
+still-requires : tie.Need-still-requires invariant-loop-i decreases-loop-i
 still-requires c κs = search rules
 
-element-write-left : tie.Need-element-write-left invariant-loop decreases-loop
-element-write-left c = omega arith
+bounds-left-i-in-loop-i : tie.Need-bounds-left-i-in-loop-i invariant-loop-i decreases-loop-i
+bounds-left-i-in-loop-i c = omega arith
 
-add-i : tie.Need-overflow-add-i invariant-loop decreases-loop
-add-i c = omega arith
+overflow_add-i : tie.Need-overflow_add-i invariant-loop-i decreases-loop-i
+overflow_add-i c = omega arith
 
-loop-less : tie.Need-loop-smaller invariant-loop decreases-loop
-loop-less c = omega arith
+loop-i-smaller : tie.Need-loop-i-smaller invariant-loop-i decreases-loop-i
+loop-i-smaller c = omega arith
 
-loop-again : tie.Need-loop-preserved invariant-loop decreases-loop
-loop-again c =
-    let l = (round c).before.loop in
+loop-i-preserved : tie.Need-loop-i-preserved invariant-loop-i decreases-loop-i
+loop-i-preserved c =
+    let l = (round c).loop-i in
     let a = c.before.before in
-    (struck-on l.inv.0 (round c).before.before.requires.0 (omega arith) _ (rw (← a.least-alike.ensures.0) c.still.ensures), omega arith)
+    (struck-on l.invariant.0 (round c).requires.0 (omega arith) _ (rw (← a.least_alike.ensures.0) c.still.ensures), omega arith)
 
-returns : tie.Need-returns invariant-loop decreases-loop
-returns c = let l = c.before.loop in let z : l.i ≡ 512 = omega arith in rw z at l.invariant.0
+returns : tie.Need-returns invariant-loop-i decreases-loop-i
+returns c = let l = c.loop-i in let z : l.i ≡ 512 = omega arith in rw z at l.invariant.0
 
 pub strike_spec : {M : Type 1} → statement M
 strike_spec =
     tie.close
     (tie.spec
-    invariant-loop
-    decreases-loop
-    loop-holds
-    element-copy-out-still
-    least-alike-requires
-    element-copy-out-still-2
+    invariant-loop-i
+    decreases-loop-i
+    loop-i-init
+    bounds-left-i
+    least_alike-requires
+    bounds-passed-least_alike
     still-requires
-    element-write-left
-    add-i
-    loop-less
-    loop-again
+    bounds-left-i-in-loop-i
+    overflow_add-i
+    loop-i-smaller
+    loop-i-preserved
     returns)

@@ -1,0 +1,17 @@
+-- `choice::first_left` meets its contract. The invariant: no choice below i is left.
+use mathlib.Core.Path.{◌≡◌, sym, ◌∙◌}
+use mathlib.Core.Bool.{true}
+use Prim.Native.Nat.{ℕ, ◌-◌, ◌≤◌, ◌<◌}
+use native.Mathlib.Omega.{arith}
+use lib.ListN.{get_or}
+use borrow.Author.Rules.{rules}
+use Rattle.model.proofs.Logic.{by_equality}
+use Rattle.choice.specs.Choices.{is_choice}
+use Rattle.choice.proofs.Choosing.{fallen, standing}
+use Rattle.choice.proofs.first_left.Given as goal
+
+abbrev pub invariant-loop-i : goal.invariant-loop-i
+invariant-loop-i l = (l.i ≤ 512) × ((k : ℕ) → k < l.i → is_choice l.m k ≡ true → get_or l.left k 0 ≡ 0)
+
+abbrev pub decreases-loop-i : goal.decreases-loop-i
+decreases-loop-i l = 512 - l.i

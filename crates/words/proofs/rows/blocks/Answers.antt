@@ -1,0 +1,18 @@
+-- `rows::blocks` meets its contract: the rows of blocks can be told.
+use mathlib.Core.Path.{refl}
+use native.Mathlib.Omega.{arith}
+use lib.Dec.{lit≤}
+use Rattle.output.specs.Digits.{all_from}
+use Rattle.words.proofs.rows.blocks.Goals as goal
+
+pub said-requires : goal.said-requires
+unfolding all_from
+said-requires c = (record { seen = refl; short = lit≤ tt }, omega arith)
+
+pub said-requires-then-a-eq-ANNOTATION : goal.said-requires-then-a-eq-ANNOTATION
+unfolding all_from
+said-requires-then-a-eq-ANNOTATION c = (record { seen = refl; short = lit≤ tt }, omega arith)
+
+pub said-requires-2 : goal.said-requires-2
+unfolding all_from
+said-requires-2 c = (record { seen = refl; short = lit≤ tt }, omega arith)

@@ -1,0 +1,18 @@
+-- `rows::edges` meets its contract: the rows of edges can be told.
+use mathlib.Core.Path.{refl}
+use native.Mathlib.Omega.{arith}
+use lib.Dec.{lit≤}
+use Rattle.output.specs.Digits.{all_from}
+use Rattle.words.proofs.rows.edges.Goals as goal
+
+pub said-requires : goal.said-requires
+unfolding all_from
+said-requires c = (record { seen = refl; short = lit≤ tt }, omega arith)
+
+pub said-requires-then-a-eq-UNTAKEN_EDGE : goal.said-requires-then-a-eq-UNTAKEN_EDGE
+unfolding all_from
+said-requires-then-a-eq-UNTAKEN_EDGE c = (record { seen = refl; short = lit≤ tt }, omega arith)
+
+pub said-requires-2 : goal.said-requires-2
+unfolding all_from
+said-requires-2 c = (record { seen = refl; short = lit≤ tt }, omega arith)

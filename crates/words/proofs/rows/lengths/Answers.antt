@@ -1,0 +1,18 @@
+-- `rows::lengths` meets its contract: the rows of lengths and field counts can be told.
+use mathlib.Core.Path.{refl}
+use native.Mathlib.Omega.{arith}
+use lib.Dec.{lit≤}
+use Rattle.output.specs.Digits.{all_from}
+use Rattle.words.proofs.rows.lengths.Goals as goal
+
+pub said-requires : goal.said-requires
+unfolding all_from
+said-requires c = (record { seen = refl; short = lit≤ tt }, omega arith)
+
+pub said-requires-then-a-eq-FIELD_COUNT : goal.said-requires-then-a-eq-FIELD_COUNT
+unfolding all_from
+said-requires-then-a-eq-FIELD_COUNT c = (record { seen = refl; short = lit≤ tt }, omega arith)
+
+pub said-requires-2 : goal.said-requires-2
+unfolding all_from
+said-requires-2 c = (record { seen = refl; short = lit≤ tt }, omega arith)
