@@ -1,4 +1,6 @@
 // The answer to a line at its end, as text after what the buffer holds already.
+#![tactic(auto)]
+
 ghost use Rattle.std.specs.Prelude.{◌≡◌, ◌+◌, ◌≤◌, min, length, take};
 ghost use Rattle.grammar.specs.Grammar.{pool};
 ghost use Rattle.protocol.specs.Said.{said, parts_in};

@@ -1,4 +1,6 @@
 // The calls of the loader that requests ask for, each at the parts of a request that was read into the pools.
+#![tactic(auto)]
+
 ghost use Rattle.std.specs.Prelude.{◌≡◌, length};
 ghost use Rattle.protocol.specs.Said.{parts_in};
 ghost use Rattle.calls.specs.Requests.{check_of, blanks_in, memory_verdict, entry_verdict, Ran};

@@ -5,7 +5,7 @@ use mathlib.Core.Logic.{◌↔◌}
 use mathlib.Core.List.{List}
 use Prim.Native.Nat.{ℕ}
 use contract.Lifetimes.{Lfts}
-use denote.Ref.{Bor}
+use denote.Ref.{Bor, MutBor}
 use denote.Triple.Clauses.{Lasts, at_exit}
 use denote.Triple.Entry.{Args}
 use Rattle.model.specs.Table.{code_of}
@@ -24,11 +24,14 @@ use Rattle.embed.proofs.ramdulsi_entry_check.Reads as entry-check-read
 use Rattle.embed.specs.contracts.ramdulsi_run
 use Rattle.embed.proofs.ramdulsi_run.Reads as run-read
 
--- words that a call is lent
+-- words that a call is lent, to read and to write
 abbrev Lent : Type 0
 Lent = Bor (List ℕ)
 
-module _ (κs : Lfts 5) (types tags blocks code verdict : Lent) where
+abbrev LentMut : Type 0
+LentMut = MutBor (List ℕ)
+
+module _ (κs : Lfts 5) (types tags blocks code : Lent) (verdict : LentMut) where
   abbrev to-check : Args ramdulsi_check.signature κs
   to-check = (types, (tags, (blocks, (code, (verdict, tt)))))
 
@@ -40,7 +43,7 @@ module _ (κs : Lfts 5) (types tags blocks code verdict : Lent) where
       ↔ CheckSaid types.now tags.now (code_of blocks.now code.now) r (at_exit ramdulsi_check.ended κs to-check last).1.1.1.1.0.now
   check-gives r last = (λ l. l, λ g. g)
 
-module _ (κs : Lfts 7) (types tags blocks code offered verdict choice : Lent) where
+module _ (κs : Lfts 7) (types tags blocks code offered : Lent) (verdict choice : LentMut) where
   abbrev to-check-offered : Args ramdulsi_check_offered.signature κs
   to-check-offered = (types, (tags, (blocks, (code, (offered, (verdict, (choice, tt)))))))
 
@@ -49,11 +52,12 @@ module _ (κs : Lfts 7) (types tags blocks code offered verdict choice : Lent) w
 
   pub check-offered-gives : (r : ℕ) (last : Lasts ramdulsi_check_offered.ended κs to-check-offered)
       → check-offered-read.Learnt κs to-check-offered r (at_exit ramdulsi_check_offered.ended κs to-check-offered last)
-      ↔ OfferedCheckSaid types.now tags.now (code_of blocks.now code.now) (offered .now) r
+      ↔ OfferedCheckSaid types.now tags.now (code_of blocks.now code.now) offered.now r
       (at_exit ramdulsi_check_offered.ended κs to-check-offered last).1.1.1.1.1.0.now
       (at_exit ramdulsi_check_offered.ended κs to-check-offered last).1.1.1.1.1.1.0.now
   check-offered-gives r last = (λ l. l, λ g. g)
 
+module _ (κs : Lfts 7) (types tags : Lent) (blocks : LentMut) (code offered : Lent) (verdict choice : LentMut) where
   abbrev to_fill : Args ramdulsi_fill.signature κs
   to_fill = (types, (tags, (blocks, (code, (offered, (verdict, (choice, tt)))))))
 
@@ -62,12 +66,12 @@ module _ (κs : Lfts 7) (types tags blocks code offered verdict choice : Lent) w
 
   pub fill_gives : (r : ℕ) (last : Lasts ramdulsi_fill.ended κs to_fill)
       → fill-read.Learnt κs to_fill r (at_exit ramdulsi_fill.ended κs to_fill last)
-      ↔ FillSaid types.now tags.now (code_of blocks.now code.now) (offered .now) r
+      ↔ FillSaid types.now tags.now (code_of blocks.now code.now) offered.now r
       (at_exit ramdulsi_fill.ended κs to_fill last).1.1.1.1.1.0.now
       (at_exit ramdulsi_fill.ended κs to_fill last).1.1.1.1.1.1.0.now (at_exit ramdulsi_fill.ended κs to_fill last).1.1.0.now
   fill_gives r last = (λ l. l, λ g. g)
 
-module _ (κs : Lfts 5) (types tags allocations memory place : Lent) where
+module _ (κs : Lfts 5) (types tags allocations memory : Lent) (place : LentMut) where
   abbrev to-memory-check : Args ramdulsi_memory_check.signature κs
   to-memory-check = (types, (tags, (allocations, (memory, (place, tt)))))
 
@@ -76,12 +80,12 @@ module _ (κs : Lfts 5) (types tags allocations memory place : Lent) where
 
   pub memory-check-gives : (r : ℕ) (last : Lasts ramdulsi_memory_check.ended κs to-memory-check)
       → memory-check-read.Learnt κs to-memory-check r (at_exit ramdulsi_memory_check.ended κs to-memory-check last)
-      ↔ MemoryCheckSaid types.now tags.now allocations.now (memory .now) r
+      ↔ MemoryCheckSaid types.now tags.now allocations.now memory.now r
       (at_exit ramdulsi_memory_check.ended κs to-memory-check last).1.1.1.1.0.now
       (at_exit ramdulsi_memory_check.ended κs to-memory-check last).1.1.1.0.now
   memory-check-gives r last = (λ l. (l, refl), λ g. g.0)
 
-module _ (κs : Lfts 8) (types tags allocations memory blocks code : Lent) (b : ℕ) (registers place : Lent) where
+module _ (κs : Lfts 8) (types tags allocations memory blocks code : Lent) (b : ℕ) (registers : Lent) (place : LentMut) where
   abbrev to-entry-check : Args ramdulsi_entry_check.signature κs
   to-entry-check = (types, (tags, (allocations, (memory, (blocks, (code, (b, (registers, (place, tt)))))))))
 
@@ -90,12 +94,12 @@ module _ (κs : Lfts 8) (types tags allocations memory blocks code : Lent) (b : 
 
   pub entry-check-gives : (r : ℕ) (last : Lasts ramdulsi_entry_check.ended κs to-entry-check)
       → entry-check-read.Learnt κs to-entry-check r (at_exit ramdulsi_entry_check.ended κs to-entry-check last)
-      ↔ EntryCheckSaid types.now tags.now allocations.now (memory .now) (code_of blocks.now code.now) (ready b registers.now) r
+      ↔ EntryCheckSaid types.now tags.now allocations.now memory.now (code_of blocks.now code.now) (ready b registers.now) r
       (at_exit ramdulsi_entry_check.ended κs to-entry-check last).1.1.1.1.1.1.1.1.0.now
       (at_exit ramdulsi_entry_check.ended κs to-entry-check last).1.1.1.0.now
   entry-check-gives r last = (λ l. (l, refl), λ g. g.0)
 
-module _ (κs : Lfts 5) (blocks code memory : Lent) (b : ℕ) (registers : Lent) (budget : ℕ) (answer : Lent) where
+module _ (κs : Lfts 5) (blocks code : Lent) (memory : LentMut) (b : ℕ) (registers : LentMut) (budget : ℕ) (answer : LentMut) where
   abbrev to-run : Args ramdulsi_run.signature κs
   to-run = (blocks, (code, (memory, (b, (registers, (budget, (answer, tt)))))))
 
@@ -104,7 +108,7 @@ module _ (κs : Lfts 5) (blocks code memory : Lent) (b : ℕ) (registers : Lent)
 
   pub run-gives : (r : ℕ) (last : Lasts ramdulsi_run.ended κs to-run)
       → run-read.Learnt κs to-run r (at_exit ramdulsi_run.ended κs to-run last)
-      ↔ RunSaid (code_of blocks.now code.now) (memory .now) (ready b registers.now) budget r
+      ↔ RunSaid (code_of blocks.now code.now) memory.now (ready b registers.now) budget r
       (at_exit ramdulsi_run.ended κs to-run last).1.1.0.now (at_exit ramdulsi_run.ended κs to-run last).1.1.1.1.0.now
       (at_exit ramdulsi_run.ended κs to-run last).1.1.1.1.1.1.0.now
   run-gives r last = (λ l. l, λ g. g)

@@ -90,7 +90,7 @@ pub extern "C" fn ramdulsi_fill(
     choice: &mut [u32; 3],
 ) -> u32
     ensures { Fills result blocks offered verdict choice
-        (offered_check (given types) (given tags) (code_of (given blocks) (given code)) (given offered)) }
+        (offered_check (given types) (given tags) (code_of blocks.old (given code)) (given offered)) }
 {
     let a = loader::fill(types, tags, blocks, code, offered);
     chosen(a, verdict, choice)
@@ -143,7 +143,7 @@ pub extern "C" fn ramdulsi_run(
     answer: &mut [u32; 4],
 ) -> u32
     ensures { Runs result memory registers answer
-        (run (code_of (given blocks) (given code)) (given memory) (ready block (given registers)) budget) }
+        (run (code_of (given blocks) (given code)) memory.old (ready block registers.old) budget) }
 {
     let held = *registers;
     let r = loader::run(blocks, code, memory, block, held, budget);

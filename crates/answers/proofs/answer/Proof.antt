@@ -6,11 +6,11 @@ use borrow.Author.Rules.{rules}
 use Rattle.answers.proofs.answer.Statement.{statement}
 use Rattle.answers.proofs.answer.Tie as tie
 
-has-answer-requires : tie.Need-has-answer-requires
-has-answer-requires c κs = search rules
+has_answer-requires : tie.Need-has_answer-requires
+has_answer-requires c κs = search rules
 
-returns : tie.Need-returns
-returns c =
+returns-then-not-has_answer : tie.Need-returns-then-not-has_answer
+returns-then-not-has_answer c =
     let a = c.before in
     let s = a.before.before.before.before in
     no-reply
@@ -22,25 +22,25 @@ returns c =
     s.args.count
     s.args.out.now
     s.args.n
-    (sym a.has-answer.ensures ∙ not-true _ c.if1.true)
+    (sym a.has_answer.ensures ∙ not-true _ c.if-not-has_answer.true-raw)
 
-numbered-requires : tie.Need-numbered-requires
-numbered-requires c κs = search rules
+numbered-at-requires : tie.Need-numbered-at-requires
+numbered-at-requires c κs = search rules
 
-answered-requires : tie.Need-answered-requires
-answered-requires c κs = search rules
+answered-g-requires : tie.Need-answered-g-requires
+answered-g-requires c κs = search rules
 
 ended-requires : tie.Need-ended-requires
 ended-requires c κs = search rules
 
-same_length : tie.Need-same-length
-same_length c = search rules
+shape_of-space : tie.Need-shape_of-space
+shape_of-space c = search rules
 
-abbrev start : tie.Else1 → tie.Start
+abbrev start : tie.Else-not-has_answer → tie.Start
 start e = e.before.before.before.before.before
 
-returns-2 : tie.Need-returns-2
-returns-2 c =
+returns : tie.Need-returns
+returns c =
     let g = c.before.before.before.before in
     let k = g.before.before.before in
     let e = k.before.before in
@@ -55,20 +55,20 @@ returns-2 c =
     _ _ _ _
     s.args.n
     _ _ _
-    (sym e.before.has-answer.ensures ∙ not-false _ e.if1.false)
-    k.numbered.ensures.0
-    k.numbered.ensures.1
-    g.answered.ensures
+    (sym e.has_answer.ensures ∙ not-false _ e.if-not-has_answer.false-raw)
+    k.numbered-at.ensures.0
+    k.numbered-at.ensures.1
+    g.answered-g.ensures
     c.ended.ensures
 
 pub answer_spec : {M : Type 1} → statement M
 answer_spec =
     tie.close
     (tie.spec
-    has-answer-requires
-    returns
-    numbered-requires
-    answered-requires
+    has_answer-requires
+    returns-then-not-has_answer
+    numbered-at-requires
+    answered-g-requires
     ended-requires
-    same_length
-    returns-2)
+    shape_of-space
+    returns)

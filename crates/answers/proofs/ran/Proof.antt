@@ -4,17 +4,17 @@ use borrow.Author.Rules.{rules}
 use Rattle.answers.proofs.ran.Statement.{statement}
 use Rattle.answers.proofs.ran.Tie as tie
 
-run-requires : tie.Need-run-requires
-run-requires c κs = search rules
+run-r-requires : tie.Need-run-r-requires
+run-r-requires c κs = search rules
 
 printed-requires : tie.Need-printed-requires
 printed-requires c κs = search rules
 
-same_length : tie.Need-same-length
-same_length c = search rules
+shape_of-memory : tie.Need-shape_of-memory
+shape_of-memory c = search rules
 
-abbrev run-made : tie.After-printed → tie.After-run
-run-made c = c.before.before.before.before.before
+abbrev run-made : tie.After-printed → tie.After-run-r
+run-made c = c.before.before.before.before
 
 returns : tie.Need-returns
 returns c =
@@ -29,8 +29,8 @@ returns c =
     _
     s.args.budget
     _
-    r.run.ensures
+    r.run-r.ensures
     c.printed.ensures
 
 pub ran_spec : {M : Type 1} → statement M
-ran_spec = tie.close (tie.spec run-requires printed-requires same_length returns)
+ran_spec = tie.close (tie.spec run-r-requires printed-requires shape_of-memory returns)

@@ -8,8 +8,8 @@ use borrow.Author.Rules.{rules}
 use Rattle.answers.proofs.request.Statement.{statement}
 use Rattle.answers.proofs.request.Tie as tie
 
-check-requires : tie.Need-check-requires
-check-requires c κs = search rules
+check-a-requires : tie.Need-check-a-requires
+check-a-requires c κs = search rules
 
 blanks-requires : tie.Need-blanks-requires
 blanks-requires c κs = search rules
@@ -17,96 +17,96 @@ blanks-requires c κs = search rules
 checked-requires : tie.Need-checked-requires
 checked-requires c κs = search rules
 
-memory-check-requires : tie.Need-memory-check-requires
-memory-check-requires c κs = search rules
+memory_check-requires : tie.Need-memory_check-requires
+memory_check-requires c κs = search rules
 
 judged-requires : tie.Need-judged-requires
 judged-requires c κs = search rules
 
-entry-check-requires : tie.Need-entry-check-requires
-entry-check-requires c κs = search rules
+entry_check-requires : tie.Need-entry_check-requires
+entry_check-requires c κs = search rules
 
-judged-requires-2 : tie.Need-judged-requires-2
-judged-requires-2 c κs = search rules
+judged-requires-then-form-eq-ENTRY : tie.Need-judged-requires-then-form-eq-ENTRY
+judged-requires-then-form-eq-ENTRY c κs = search rules
 
-long-requires : tie.Need-long-requires
-long-requires c κs = search rules
+long-budget-requires : tie.Need-long-budget-requires
+long-budget-requires c κs = search rules
 
-run-request-requires : tie.Need-run-request-requires
-run-request-requires c κs = search rules
+run_request-requires : tie.Need-run_request-requires
+run_request-requires c κs = search rules
 
-same_length : tie.Need-same-length
-same_length c = search rules
+shape_of-space : tie.Need-shape_of-space
+shape_of-space c = search rules
 
 -- ---- what is lent
 
-abbrev lent : tie.After-slice-known → tie.Start
+abbrev lent : tie.After-slice_known-1 → tie.Start
 lent c = c.before.before.before
 
-abbrev parts : tie.After-slice-known → List (List ℕ)
+abbrev parts : tie.After-slice_known-1 → List (List ℕ)
 parts c = let a = (lent c).args in parts_in a.words.now a.ends.now a.l.marked
 
-abbrev longs : tie.After-slice-known → List ℕ
+abbrev longs : tie.After-slice_known-1 → List ℕ
 longs c = let a = (lent c).args in take a.l.stored a.longs.now
 
-abbrev form : tie.After-slice-known → ℕ
+abbrev form : tie.After-slice_known-1 → ℕ
 form c = (lent c).args.l.form
 
 -- ---- the four rows
 
-returns : tie.Need-returns
-returns c =
+returns-then-form-eq-CHECK : tie.Need-returns-then-form-eq-CHECK
+returns-then-form-eq-CHECK c =
     let b = c.before in
     let a = b.before.before in
     let t = a.before in
     let k = t.before in
     gives_same
     _ _ _ _ _ _
-    (asks-check (form k) (parts k) (longs k) _ _ t.if1.true a.check.ensures b.blanks.ensures)
+    (asks-check (form k) (parts k) (longs k) _ _ t.if-form-eq-CHECK.true a.check-a.ensures b.blanks.ensures)
     c.checked.ensures
 
-returns-2 : tie.Need-returns-2
-returns-2 c =
+returns-then-form-eq-MEMORY : tie.Need-returns-then-form-eq-MEMORY
+returns-then-form-eq-MEMORY c =
     let t = c.before.before.before in
     let e = t.before in
     let k = e.before in
-    gives_same _ _ _ _ _ _ (asks-memory (form k) (parts k) (longs k) e.if1.false _ t.if2.true c.before.memory-check.ensures) c.judged.ensures
+    gives_same _ _ _ _ _ _ (asks-memory (form k) (parts k) (longs k) e.if-form-eq-CHECK.false _ t.if-form-eq-MEMORY.true c.memory_check.ensures) c.judged.ensures
 
-returns-3 : tie.Need-returns-3
-returns-3 c =
+returns-then-form-eq-ENTRY : tie.Need-returns-then-form-eq-ENTRY
+returns-then-form-eq-ENTRY c =
     let t = c.before.before.before in
     let e = t.before in
     let k = e.before.before in
     gives_same
     _ _ _ _ _ _
-    (asks-entry (form k) (parts k) (longs k) e.before.if1.false e.if2.false _ t.if3.true c.before.entry-check.ensures)
-    c.judged2.ensures
+    (asks-entry (form k) (parts k) (longs k) e.if-form-eq-CHECK.false e.if-form-eq-MEMORY.false _ t.if-form-eq-ENTRY.true c.entry_check.ensures)
+    c.judged-then-form-eq-ENTRY.ensures
 
-returns-4 : tie.Need-returns-4
-returns-4 c =
+returns : tie.Need-returns
+returns c =
     let r = c.before.before in
     let e = r.before.before.before.before in
     let k = e.before.before.before in
     gives_same
     _ _ _ _ _ _
-    (asks-run (form k) (parts k) (longs k) e.before.before.if1.false e.before.if2.false _ e.if3.false r.before.before.before.long.ensures)
-    r.run-request.ensures
+    (asks-run (form k) (parts k) (longs k) e.if-form-eq-CHECK.false e.if-form-eq-MEMORY.false _ e.if-form-eq-ENTRY.false r.long-budget.ensures)
+    r.run_request.ensures
 
 pub request_spec : {M : Type 1} → statement M
 request_spec =
     tie.close
     (tie.spec
-    check-requires
+    check-a-requires
     blanks-requires
     checked-requires
-    returns
-    memory-check-requires
+    returns-then-form-eq-CHECK
+    memory_check-requires
     judged-requires
-    returns-2
-    entry-check-requires
-    judged-requires-2
-    returns-3
-    long-requires
-    run-request-requires
-    same_length
-    returns-4)
+    returns-then-form-eq-MEMORY
+    entry_check-requires
+    judged-requires-then-form-eq-ENTRY
+    returns-then-form-eq-ENTRY
+    long-budget-requires
+    run_request-requires
+    shape_of-space
+    returns)

@@ -12,41 +12,41 @@ use borrow.Author.Rules.{rules}
 use Rattle.answers.proofs.run_request.Statement.{statement}
 use Rattle.answers.proofs.run_request.Tie as tie
 
-part-requires : tie.Need-part-requires
-part-requires c κs = search rules
+part-blocks-requires : tie.Need-part-blocks-requires
+part-blocks-requires c κs = search rules
 
-part-requires-2 : tie.Need-part-requires-2
-part-requires-2 c κs = search rules
+part-code-requires : tie.Need-part-code-requires
+part-code-requires c κs = search rules
 
-part-requires-3 : tie.Need-part-requires-3
-part-requires-3 c κs = search rules
+part-held-requires : tie.Need-part-held-requires
+part-held-requires c κs = search rules
 
-part-requires-4 : tie.Need-part-requires-4
-part-requires-4 c κs = search rules
+part-row-requires : tie.Need-part-row-requires
+part-row-requires c κs = search rules
 
 -- the memory is a part of the pool, for which there is space
-abbrev begun : tie.After-part4 → tie.Start
+abbrev begun : tie.After-part-row → tie.Start
 begun d = d.before.before.before.before.before.before.before
 
-short : (d : tie.After-part4) → length d.before.part3.result.now ≤ length (begun d).args.words.now
+short : (d : tie.After-part-row) → length d.part-held.result.now ≤ length (begun d).args.words.now
 short d =
     let s = begun d in
-    part-short s.args.words.now s.args.ends.now s.args.marked 2 _ d.before.part3.ensures
+    part-short s.args.words.now s.args.ends.now s.args.marked 2 _ d.part-held.ensures
 
-slice-relend-prefix-ran : tie.Need-slice-relend-prefix-ran
-slice-relend-prefix-ran c = omega (arith, short c)
+slice_bounds-ran-end : tie.Need-slice_bounds-ran-end
+slice_bounds-ran-end c = omega (arith, short c)
 
-slice-aggregate-ran : tie.Need-slice-aggregate-ran
-slice-aggregate-ran c = sym (length-take-le _ _ (omega (arith, short c.before)))
+slice_bounds-ran-end-2 : tie.Need-slice_bounds-ran-end-2
+slice_bounds-ran-end-2 c = sym (length-take-le _ _ (omega (arith, short c.before)))
 
 ran-requires : tie.Need-ran-requires
 ran-requires c κs =
     let h = short c.before.before in (omega arith, sym (length-take-le _ _ (omega (arith, h))), omega (arith, h))
 
-same_length : tie.Need-same-length
-same_length c = search rules
+shape_of-space : tie.Need-shape_of-space
+shape_of-space c = search rules
 
-abbrev cut : tie.After-slice-known2 → tie.After-part4
+abbrev cut : tie.After-slice_known-2-1 → tie.After-part-row
 cut c = c.before.before.before.before.before
 
 abbrev parts : tie.Start → List (List ℕ)
@@ -61,22 +61,22 @@ returns c =
     (parts s)
     _ _ _ _
     s.args.budget
-    d.before.before.before.part.ensures
-    d.before.before.part2.ensures
-    d.before.part3.ensures
-    d.part4.ensures
-    c.before.before.ran.ensures
+    d.part-blocks.ensures
+    d.part-code.ensures
+    d.part-held.ensures
+    d.part-row.ensures
+    c.ran.ensures
 
 pub run_request_spec : {M : Type 1} → statement M
 run_request_spec =
     tie.close
     (tie.spec
-    part-requires
-    part-requires-2
-    part-requires-3
-    part-requires-4
-    slice-relend-prefix-ran
-    slice-aggregate-ran
+    part-blocks-requires
+    part-code-requires
+    part-held-requires
+    part-row-requires
+    slice_bounds-ran-end
+    slice_bounds-ran-end-2
     ran-requires
-    same_length
+    shape_of-space
     returns)

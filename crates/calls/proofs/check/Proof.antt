@@ -7,34 +7,34 @@ use Rattle.calls.proofs.check.Tie as tie
 
 -- ---- places: the parts of the request, one after another
 
-abbrev start : tie.After-part → tie.Start
+abbrev start : tie.After-part-types → tie.Start
 start c = c.before.before.before
 
-abbrev types : tie.After-part3 → tie.After-part
+abbrev types : tie.After-part-blocks → tie.After-part-types
 types c = c.before.before
 
-abbrev blocks : tie.After-part5 → tie.After-part3
+abbrev blocks : tie.After-part-offered → tie.After-part-blocks
 blocks c = c.before.before
 
 -- ---- the needs
 
-part-requires : tie.Need-part-requires
-part-requires c κs = search rules
+part-types-requires : tie.Need-part-types-requires
+part-types-requires c κs = search rules
 
-part-requires-2 : tie.Need-part-requires-2
-part-requires-2 c κs = search rules
+part-tags-requires : tie.Need-part-tags-requires
+part-tags-requires c κs = search rules
 
-part-requires-3 : tie.Need-part-requires-3
-part-requires-3 c κs = search rules
+part-blocks-requires : tie.Need-part-blocks-requires
+part-blocks-requires c κs = search rules
 
-part-requires-4 : tie.Need-part-requires-4
-part-requires-4 c κs = search rules
+part-code-requires : tie.Need-part-code-requires
+part-code-requires c κs = search rules
 
-part-requires-5 : tie.Need-part-requires-5
-part-requires-5 c κs = search rules
+part-offered-requires : tie.Need-part-offered-requires
+part-offered-requires c κs = search rules
 
-check-offered-requires : tie.Need-check-offered-requires
-check-offered-requires c κs = search rules
+check_offered-requires : tie.Need-check_offered-requires
+check_offered-requires c κs = search rules
 
 returns : tie.Need-returns
 returns c =
@@ -45,14 +45,14 @@ returns c =
     check-gave
     (parts_in s.args.words.now s.args.ends.now s.args.marked)
     _ _ _ _ _ _
-    c.check-offered.ensures
-    t.part.ensures
-    b.before.part2.ensures
-    b.part3.ensures
-    p.before.part4.ensures
-    p.part5.ensures
+    c.check_offered.ensures
+    t.part-types.ensures
+    b.part-tags.ensures
+    b.part-blocks.ensures
+    p.part-code.ensures
+    p.part-offered.ensures
 
 pub check_spec : {M : Type 1} → statement M
 check_spec =
     tie.close
-    (tie.spec part-requires part-requires-2 part-requires-3 part-requires-4 part-requires-5 check-offered-requires returns)
+    (tie.spec part-types-requires part-tags-requires part-blocks-requires part-code-requires part-offered-requires check_offered-requires returns)

@@ -7,22 +7,22 @@ use Rattle.calls.proofs.run.Tie as tie
 copy-requires : tie.Need-copy-requires
 copy-requires c κs = search rules
 
-word-requires : tie.Need-word-requires
-word-requires c κs = search rules
+word-block-requires : tie.Need-word-block-requires
+word-block-requires c κs = search rules
 
-registers-requires : tie.Need-registers-requires
-registers-requires c κs = search rules
+registers-given-requires : tie.Need-registers-given-requires
+registers-given-requires c κs = search rules
 
 run-requires : tie.Need-run-requires
 run-requires c κs = search rules
 
-same_length : tie.Need-same-length
-same_length c = search rules
+shape_of-memory : tie.Need-shape_of-memory
+shape_of-memory c = search rules
 
-abbrev ran : tie.After-slice-known3 → tie.After-run
+abbrev ran : tie.After-slice_known-3-1 → tie.After-run
 ran c = c.before.before
 
-abbrev copied : tie.After-slice-known3 → tie.After-copy
+abbrev copied : tie.After-slice_known-3-1 → tie.After-copy
 copied c = (ran c).before.before.before.before.before.before
 
 returns : tie.Need-returns
@@ -39,10 +39,10 @@ returns c =
     _
     (ran c).run.ensures
     (copied c).copy.ensures
-    (ran c).before.before.before.word.ensures
-    (ran c).before.before.registers.ensures
+    (ran c).word-block.ensures
+    (ran c).registers-given.ensures
 
 pub run_spec : {M : Type 1} → statement M
 run_spec =
     tie.close
-    (tie.spec copy-requires word-requires registers-requires run-requires same_length returns)
+    (tie.spec copy-requires word-block-requires registers-given-requires run-requires shape_of-memory returns)

@@ -29,22 +29,22 @@ word-requires-7 c κs = search rules
 word-requires-8 : tie.Need-word-requires-8
 word-requires-8 c κs = search rules
 
-abbrev begun : tie.After-word8 → tie.After-word
+abbrev begun : tie.After-word-8 → tie.After-word
 begun c = c.before.before.before.before.before.before.before
 
 returns : tie.Need-returns
 returns c =
     eight
-    (λ k. get_or (begun c).before.before.args.row.now k 0)
+    (λ k. get_or (begun c).args.row.now k 0)
     _ _ _ _ _ _ _ _
     (begun c).word.ensures
-    c.before.before.before.before.before.before.word2.ensures
-    c.before.before.before.before.before.word3.ensures
-    c.before.before.before.before.word4.ensures
-    c.before.before.before.word5.ensures
-    c.before.before.word6.ensures
-    c.before.word7.ensures
-    c.word8.ensures
+    c.word-2.ensures
+    c.word-3.ensures
+    c.word-4.ensures
+    c.word-5.ensures
+    c.word-6.ensures
+    c.word-7.ensures
+    c.word-8.ensures
 
 pub registers_spec : {M : Type 1} → statement M
 registers_spec =

@@ -6,27 +6,14 @@ use borrow.Author.Rules.{rules}
 use Rattle.model.specs.declared.OfferedAnswer.{OfferedAnswer}
 use Rattle.model.specs.Blank.{filled_after}
 use Rattle.embed.specs.Lent.{counted_place}
-use Rattle.embed.proofs.ramdulsi_fill.Statement.{statement}
-use Rattle.embed.proofs.ramdulsi_fill.Tie as tie
+use Rattle.embed.proofs.ramdulsi_fill.Goals as goal
 
 filled-by : (blocks offered left : List ℕ) (a b : OfferedAnswer) → a ≡ b → left ≡ filled_after a blocks offered → left ≡ filled_after b blocks offered
 filled-by blocks offered left a b e h = h ∙ ap (λ (x : OfferedAnswer). filled_after x blocks offered) e
 
-fill-requires : tie.Need-fill-requires
-fill-requires c κs = search rules
-
-chosen-requires : tie.Need-chosen-requires
-chosen-requires c κs = search rules
-
-same_length : tie.Need-same-length
-same_length c = search rules
-
-returns : tie.Need-returns
+pub returns : goal.returns
 returns c =
-    let e = c.before.before.before.before.before.fill.ensures in (
+    let e = c.fill-a.ensures in (
       (c.chosen.ensures.0 ∙ ap (λ a. a.number) e.0, c.chosen.ensures.1 ∙ ap counted_place e.0, c.chosen.ensures.2 ∙ ap (λ a. a.choice) e.0),
       filled-by _ _ _ _ _ e.0 e.1,
     )
-
-pub ramdulsi_fill_spec : {M : Type 1} → statement M
-ramdulsi_fill_spec = tie.close (tie.spec fill-requires chosen-requires same_length returns)

@@ -1,0 +1,11 @@
+-- `embed::ramdulsi_entry_check` meets its contract.
+use mathlib.Core.Path.{ap, ◌∙◌}
+use borrow.Author.Rules.{rules}
+use Rattle.embed.specs.Lent.{place_of}
+use Rattle.embed.proofs.ramdulsi_entry_check.Goals as goal
+
+pub returns : goal.returns
+returns c = (
+  c.placed.ensures.0 ∙ ap (λ v. v.number) c.entry_check-v.ensures,
+  c.placed.ensures.1 ∙ ap place_of c.entry_check-v.ensures,
+)
