@@ -1,6 +1,6 @@
 -- What the functions that answer the lines of some bytes promise.
 use Rattle.std.specs.Prelude.{◌≡◌, ℕ, ◌+◌, ◌<◌, ◌≤◌, Bool, true, false, List, [], ◌++◌, length, take, drop}
-use Rattle.std.specs.Borrow.{Bor}
+use Rattle.std.specs.Borrow.{MutBor}
 use denote.Triple.Both.{Both}
 use Rattle.output.specs.Appended.{Appended}
 use Rattle.output.specs.Digits.{printable}
@@ -52,7 +52,7 @@ pub record Finished (s : Style) (t : Standing) (n : ℕ) (before : List ℕ) (p 
 
 -- an array that is lent, as it is at entry and at exit
 abbrev pub Lent : Type 0
-Lent = Both (Bor (List ℕ)) (Bor (List ℕ))
+Lent = Both (MutBor (List ℕ)) (MutBor (List ℕ))
 
 -- how far an input was read when a function is called, and when it returns
 abbrev pub standing_in : Place → (words ends longs : Lent) → Standing

@@ -1,4 +1,6 @@
 // What the program answers to the bytes that it reads, as text in a buffer. Nothing here reads or writes.
+#![tactic(auto)]
+
 use protocol::Line;
 
 mod lines;

@@ -4,19 +4,19 @@ use Rattle.std.proofs.Common.{rules}
 use Rattle.service.proofs.lines.line_ended.Statement.{statement}
 use Rattle.service.proofs.lines.line_ended.Tie as tie
 
-end-requires : tie.Need-end-requires
-end-requires c κs = search rules
+end-m-requires : tie.Need-end-m-requires
+end-m-requires c κs = search rules
 
-answer-requires : tie.Need-answer-requires
-answer-requires c κs = search rules
+answer-reply-requires : tie.Need-answer-reply-requires
+answer-reply-requires c κs = search rules
 
-next-line-requires : tie.Need-next-line-requires
-next-line-requires c κs = search rules
+next_line-requires : tie.Need-next_line-requires
+next_line-requires c κs = search rules
 
-abbrev lent : tie.After-answer → tie.After-answer-arg4
-lent c = c.before.before.before.before
+abbrev lent : tie.After-answer-reply → tie.After-answer-arg-4-1
+lent c = c.before.before.before
 
-abbrev ended : tie.After-answer → tie.After-end
+abbrev ended : tie.After-answer-reply → tie.After-end-m
 ended c = (lent c).before.before.before.before
 
 returns : tie.Need-returns
@@ -32,9 +32,9 @@ returns c =
     s.args.p.held
     s.args.p.refused
     _ _ _ _
-    e.end.ensures
-    a.answer.ensures
-    c.next-line.ensures
+    e.end-m.ensures
+    a.answer-reply.ensures
+    c.next_line.ensures
 
 pub line_ended_spec : {M : Type 1} → statement M
-line_ended_spec = tie.close (tie.spec end-requires answer-requires next-line-requires returns)
+line_ended_spec = tie.close (tie.spec end-m-requires answer-reply-requires next_line-requires returns)
