@@ -1,4 +1,6 @@
 // The program: what its arguments ask for, the inputs that they name one after the other, and how it ended.
+#![tactic(auto)]
+
 mod inputs;
 
 ghost use Rattle.std.specs.Prelude.{◌≡◌, false, not};
@@ -6,6 +8,8 @@ ghost use Rattle.console.specs.Status.{status_of};
 
 use answers::Style;
 use inputs::Ended;
+use std::env::Env;
+use std::rt::Files;
 use terminal::arguments::Asked;
 use terminal::{arguments, help};
 
@@ -33,12 +37,12 @@ fn status(e: Ended) -> i32
     ALL_WELL
 }
 
-fn serve(a: Asked) -> i32 {
+fn serve<R: Env + Files + Input + Print>(rt: &R, err: &impl Print, a: Asked) -> i32 {
     let s = Style {
         worded: a.worded,
         lined: a.lined,
     };
-    status(inputs::all(s, a.named))
+    status(inputs::all(rt, err, s, a.named))
 }
 
 // Whether a text of the program's own was written, as a status.
@@ -51,18 +55,17 @@ fn said(written: bool) -> i32
     FAILED
 }
 
-// The program, and its exit status.
-#[unsafe(no_mangle)]
-pub extern "C" fn ramdulsi_program() -> i32 {
-    let a = arguments::wished();
+// The program, and its exit status. Standard error takes bytes, as the names of inputs are.
+pub fn ramdulsi_program<R: Env + Files + Input + Print>(rt: &R, err: &impl Print) -> i32 {
+    let a = arguments::wished(rt, err);
     if a.wish == arguments::SERVE {
-        return serve(a);
+        return serve(rt, err, a);
     }
     if a.wish == arguments::HELP {
-        return said(help::help());
+        return said(help::help(rt, err));
     }
     if a.wish == arguments::VERSION {
-        return said(help::version());
+        return said(help::version(rt, err));
     }
     USAGE
 }

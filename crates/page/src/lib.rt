@@ -1,10 +1,13 @@
 // A page that a program prints: texts and numbers go into a buffer as long as it is not nearly full, so that nobody has to count them, and
 // the page is written out at the end.
+#![tactic(auto)]
+
 ghost use Rattle.std.specs.Prelude.{[], ◌∷◌, ◌≤◌, length};
 ghost use Rattle.protocol.specs.Text.{decimal, fields, verdict_text};
 ghost use Rattle.output.specs.Appended.{Appended};
 
 use model::Verdict;
+use std::io;
 
 // Half of the buffer: what is put at one time is no longer, and nothing is put after as much.
 pub const HALF: usize = 1000000;
@@ -68,13 +71,14 @@ pub fn words(out: &mut [u8; output::BUFFER], n: usize, list: &[u32]) -> usize
     output::words(out, n, list)
 }
 
-fn front(bytes: &[u8], n: usize) {
+fn front(bytes: &[u8], n: usize) -> &[u8] {
     if n <= bytes.len() {
-        io::write_all(libc::STDOUT_FILENO, &bytes[..n]);
+        return &bytes[..n];
     }
+    b""
 }
 
 // Writes the page out.
-pub fn write(out: &[u8; output::BUFFER], n: usize) {
-    front(out, n);
+pub fn write(to: &impl Print, out: &[u8; output::BUFFER], n: usize) -> io::Result<()> {
+    to.write_all(front(out, n))
 }

@@ -1,4 +1,6 @@
-// The program, as the toolchain links it: it has no exit status. `library/build` makes the same program with one.
-fn main() {
-    console::ramdulsi_program();
+// The program with status 0 always, whatever the answers are. The crate `installed` is the same program with its exit status.
+#![tactic(auto)]
+
+fn main(rt: HostRuntime) {
+    console::ramdulsi_program(&rt, &rt.stderr());
 }

@@ -1,10 +1,16 @@
 // Writes docs/REFUSALS.md: the table of answers in words, then the requests on standard input, each with its answer.
+#![tactic(auto)]
+
 ghost use Rattle.std.specs.Prelude.{◌<◌, ◌≤◌, length};
+ghost use Rattle.std.specs.Prelude.{IfOk};
+ghost use Rattle.std.specs.Io.{ReadsAtMost};
 ghost use Rattle.service.specs.Filling.{Ready};
 
 use answers::Style;
 use model::number;
 use service::Place;
+use std::io;
+use std::io::{ErrorKind, Read};
 
 fn heading(out: &mut [u8; output::BUFFER], n: usize) -> usize {
     page::text(
@@ -110,6 +116,7 @@ fn past_line(bytes: &[u8], from: usize) -> usize
 
 // A line, and after it what it is answered.
 fn with_answer(
+    to: &impl Print,
     bytes: &[u8],
     p: Place,
     words: &mut [u32; protocol::POOL],
@@ -117,64 +124,95 @@ fn with_answer(
     longs: &mut [u64; protocol::LONGS_MOST],
     space: &mut [u32; protocol::POOL],
     out: &mut [u8; output::BUFFER],
-) -> Place
+) -> io::Result<Place>
     requires { Ready p × (0 < length bytes.now) }
-    ensures { Ready result }
+    ensures { IfOk result Ready }
 {
     let s = Style {
         worded: true,
         lined: false,
     };
-    io::write_all(libc::STDOUT_FILENO, bytes);
+    to.write_all(bytes)?;
     let f = service::fill(bytes, 0, p, s, words, ends, longs, space, out);
     let q = f.place;
-    page::write(out, q.held);
-    service::written(q)
+    page::write(to, out, q.held)?;
+    Ok(service::written(q))
 }
 
 // Each line with its answer.
 fn answered(
+    to: &impl Print,
     bytes: &[u8],
     words: &mut [u32; protocol::POOL],
     ends: &mut [usize; protocol::PARTS_MOST],
     longs: &mut [u64; protocol::LONGS_MOST],
     space: &mut [u32; protocol::POOL],
     out: &mut [u8; output::BUFFER],
-) {
+) -> io::Result<()> {
     let mut p = service::start(false);
     let mut at = 0;
     while at < bytes.len() {
         let next = past_line(bytes, at);
-        p = with_answer(&bytes[at..next], p, words, ends, longs, space, out);
+        p = with_answer(
+            to,
+            &bytes[at..next],
+            p,
+            words,
+            ends,
+            longs,
+            space,
+            out,
+        )?;
         at = next;
     }
+    Ok(())
+}
+
+// Reads until the buffer is full or the input ends.
+fn read_full(from: &mut impl Read, buffer: &mut [u8]) -> io::Result<usize>
+    ensures { ReadsAtMost result buffer.new }
+{
+    let mut done = 0;
+    for _ in 0..u64::MAX {
+        match from.read(&mut buffer[done..]) {
+            Ok(0) => return Ok(done),
+            Ok(n) => done += n,
+            Err(why) => {
+                if why.kind() != ErrorKind::Interrupted {
+                    return Err(why);
+                }
+            }
+        }
+    }
+    Ok(done)
 }
 
 // The requests on standard input, as far as they fit into one buffer.
-fn requests(out: &mut [u8; output::BUFFER]) {
+fn requests(rt: &(impl Input + Print), out: &mut [u8; output::BUFFER]) -> io::Result<()> {
     let mut words = [0u32; protocol::POOL];
     let mut ends = [0usize; protocol::PARTS_MOST];
     let mut longs = [0u64; protocol::LONGS_MOST];
     let mut space = [0u32; protocol::POOL];
-    let mut buffer = io::large_buffer();
-    let n = io::read_full(libc::STDIN_FILENO, &mut buffer);
+    let mut buffer = [0u8; 65536];
+    let n = read_full(&mut rt.reader(), &mut buffer)?;
     answered(
+        rt,
         &buffer[..n],
         &mut words,
         &mut ends,
         &mut longs,
         &mut space,
         out,
-    );
+    )
 }
 
-fn main() {
+fn main(rt: HostRuntime) -> io::Result<()> {
     let mut out = [0u8; output::BUFFER];
     let a = heading(&mut out, 0);
     let b = table(&mut out, a);
     let c = examples(&mut out, b);
-    page::write(&out, c);
-    requests(&mut out);
+    page::write(&rt, &out, c)?;
+    requests(&rt, &mut out)?;
     let d = page::text(&mut out, 0, b"```\n");
-    page::write(&out, d);
+    page::write(&rt, &out, d)
 }

@@ -1,11 +1,14 @@
 // Two barley lines, one plot each, and a moisture reading of 22 per cent on the second plot: a correction routine that sets the stage
 // before the weight is refused, and so is one that writes over what was weighed; the right one takes turns with a ranking, which sees the
 // old plot or the new one and nothing between.
+#![tactic(auto)]
+
 mod assembly;
 mod plots;
 mod routines;
 
 use model::{RunAnswer, Verdict, number};
+use std::io;
 
 // Orders of eight turns.
 const RANKING_FIRST: u32 = 240;
@@ -285,7 +288,7 @@ fn taken_in(out: &mut [u8; output::BUFFER], n: usize, order: u32) -> usize {
     turns(out, n, &mut memory, order)
 }
 
-fn main() {
+fn main(rt: HostRuntime) -> io::Result<()> {
     let mut out = [0u8; output::BUFFER];
     let a = judged_hasty(&mut out, 0);
     let b = judged_overwriting(&mut out, a);
@@ -299,5 +302,5 @@ fn main() {
     let j = taken_in(&mut out, i, IN_TURN_FROM_THE_CORRECTION);
     let k = taken_in(&mut out, j, TWO_AND_TWO);
     let l = taken_in(&mut out, k, CORRECTION_FIRST);
-    page::write(&out, l);
+    page::write(&rt, &out, l)
 }

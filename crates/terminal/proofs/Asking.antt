@@ -1,15 +1,14 @@
 -- Laws of what the arguments ask for.
 use mathlib.Core.Path.{◌≡◌, refl, sym, ap, subst, ◌∙◌}
-use mathlib.Core.Bool.{Bool, true, false, not, false≢true}
+use mathlib.Core.Bool.{Bool, true, false, false≢true}
 use mathlib.Core.List.{List, [], ◌∷◌}
-use Prim.Native.Nat.{ℕ, ◌<◌, ◌≤◌}
-use borrow.Author.Tests.{eqb-true, eq-eqb, lt-ltb, le-ltb}
+use Prim.Native.Nat.{ℕ}
+use borrow.Author.Tests.{eqb-true, eq-eqb}
 use lib.Dec.{eqb}
-use lib.ListN.{length, get_or}
 use Rattle.model.specs.Question.{pick}
 use Rattle.model.proofs.Logic.{by_test, pick_true, pick-false}
 use Rattle.terminal.specs.declared.arguments.Asked.{Asked}
-use Rattle.terminal.specs.Options.{same, is, is_name, wishing, optioned, helping, versioning, unknown}
+use Rattle.terminal.specs.Options.{same, is, wishing, optioned, helping, versioning, unknown}
 
 -- ---- the same bytes
 
@@ -35,19 +34,6 @@ decides r xs ys (f, g) =
     (same xs ys)
     (λ h. g (of-same xs ys h) ∙ sym h)
     (λ h. by_test r (λ e. absurd (false≢true (sym h ∙ subst (λ zs. same xs zs ≡ true) (f e) (same_of xs)))) (λ e. e ∙ sym h))
-
--- ---- names
-
-module _ (argument : List ℕ) where
-  pub name-literal : (literal : Bool) → literal ≡ true → true ≡ is_name argument literal
-  name-literal literal h = sym (pick_true _ _ _ h)
-
-  module _ (literal : Bool) (h : literal ≡ false) where
-    pub name-short : length argument < 2 → true ≡ is_name argument literal
-    name-short s = sym (pick-false _ _ _ h ∙ pick_true _ _ _ (lt-ltb _ _ s))
-
-    pub name-by-first : 2 ≤ length argument → not (eqb (get_or argument 0 0) 45) ≡ is_name argument literal
-    name-by-first s = sym (pick-false _ _ _ h ∙ pick-false _ _ _ (le-ltb _ _ s))
 
 -- ---- options
 

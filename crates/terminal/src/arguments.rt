@@ -1,8 +1,9 @@
 // The arguments: options, and names of inputs.
-ghost use Rattle.std.specs.Prelude.{◌≡◌};
+ghost use Rattle.std.specs.Prelude.{◌≡◌, ◌≤◌, IfSome};
 ghost use Rattle.terminal.specs.Options.{is_name, wishing as wishingFor, optioned, same as sameBytes};
 
 use crate::help;
+use std::env::{Env, FillError};
 
 // ---- what is wished for
 
@@ -46,7 +47,7 @@ pub fn is_name(argument: &[u8], literal: bool) -> bool
 fn same(a: &[u8], b: &[u8]) -> bool
     ensures { result ≡ sameBytes a.now b.now }
 {
-    check::same(a, b)
+    a == b
 }
 
 fn wishing(a: Asked, wish: u32) -> Asked
@@ -58,7 +59,7 @@ fn wishing(a: Asked, wish: u32) -> Asked
 }
 
 // What is asked once an option is read.
-fn option(a: Asked, argument: &[u8]) -> Asked
+fn option(err: &impl Print, a: Asked, argument: &[u8]) -> Asked
     ensures { result ≡ optioned a argument.now }
 {
     let mut b = a;
@@ -83,24 +84,34 @@ fn option(a: Asked, argument: &[u8]) -> Asked
     if same(argument, b"--version") {
         return wishing(b, VERSION);
     }
-    help::unknown(argument);
+    help::unknown(err, argument);
     wishing(b, NOTHING)
 }
 
-fn argument(a: Asked, i: usize) -> Asked {
-    let mut text = [0u8; LONGEST];
-    let n = os::arg(i, &mut text);
-    if is_name(&text[..n], a.literal) {
+// Puts an argument into the buffer, and answers how long it is there; none past the last. Of one that is longer than the buffer the first
+// bytes are taken.
+pub fn taken(rt: &impl Env, i: usize, text: &mut [u8; LONGEST]) -> Option<usize>
+    ensures { IfSome result (λ n. n ≤ LONGEST) }
+{
+    match rt.arg(i, text) {
+        Ok(n) => Some(n),
+        Err(FillError::TooLong) => Some(LONGEST),
+        Err(FillError::NotPresent) => None,
+    }
+}
+
+// What is asked once an argument is read, the name of an input or an option.
+fn argument(err: &impl Print, a: Asked, text: &[u8]) -> Asked {
+    if is_name(text, a.literal) {
         let mut b = a;
         b.named = true;
         return b;
     }
-    option(a, &text[..n])
+    option(err, a, text)
 }
 
 // What the arguments ask for; the first that wishes for another thing than answers decides.
-pub fn wished() -> Asked {
-    let count = os::arg_count();
+pub fn wished(rt: &impl Env, err: &impl Print) -> Asked {
     let mut a = Asked {
         wish: SERVE,
         worded: false,
@@ -108,13 +119,15 @@ pub fn wished() -> Asked {
         named: false,
         literal: false,
     };
-    let mut i = 1;
-    while i < count {
-        a = argument(a, i);
+    let mut text = [0u8; LONGEST];
+    for i in 1..usize::MAX {
+        match taken(rt, i, &mut text) {
+            Some(n) => a = argument(err, a, &text[..n]),
+            None => return a,
+        }
         if a.wish != SERVE {
             return a;
         }
-        i += 1;
     }
     a
 }

@@ -1,5 +1,6 @@
-// What failed, said on standard error with the reason that the system gave. The words before the reason are put together first, as nothing
-// may come between the failure and the look at its reason.
+// What failed, said on standard error with the reason that the system gave.
+use std::fmt::Write;
+use std::{fmt, io, str};
 
 fn appended(text: &mut [u8; 4224], n: usize, bytes: &[u8]) -> usize {
     let mut at = n;
@@ -15,33 +16,75 @@ fn appended(text: &mut [u8; 4224], n: usize, bytes: &[u8]) -> usize {
     at
 }
 
-fn front(text: &[u8], n: usize) {
-    if n <= text.len() {
-        os::fail(&text[..n]);
+// A line as it is put together; what finds no room is left out.
+#[derive(Drop)]
+struct Line {
+    text: [u8; 4224],
+    n: usize,
+}
+
+impl Line {
+    fn new() -> Line {
+        Line {
+            text: [0; 4224],
+            n: 0,
+        }
+    }
+
+    fn put(&mut self, bytes: &[u8]) {
+        self.n = appended(&mut self.text, self.n, bytes);
     }
 }
 
-fn said(text: &[u8; 4224], n: usize) {
-    front(text, n);
+impl fmt::Write for Line {
+    fn write_str(&mut self, s: &str) -> fmt::Result {
+        self.put(s.as_bytes());
+        Ok(())
+    }
+}
+
+fn front(text: &[u8], n: usize) -> &[u8] {
+    if n <= text.len() {
+        return &text[..n];
+    }
+    text
+}
+
+// The system's words for a reason, without the number that std puts after them.
+fn words(shown: &[u8]) -> &[u8] {
+    match str::from_utf8(shown) {
+        Ok(text) => match text.split_once(" (os error ") {
+            Some((before, _)) => before.as_bytes(),
+            None => shown,
+        },
+        Err(_) => shown,
+    }
+}
+
+// Writes the line with the reason after it.
+fn said(err: &impl Print, line: &mut Line, why: io::Error) {
+    let mut shown = Line::new();
+    let _ = write!(shown, "{why}");
+    line.put(b": ");
+    line.put(words(front(&shown.text, shown.n)));
+    line.put(b"\n");
+    let _ = err.write_all(front(&line.text, line.n));
 }
 
 // ramdulsi: NAME: REASON
-pub fn of(name: &[u8]) {
-    let mut text = [0u8; 4224];
-    let a = appended(&mut text, 0, b"ramdulsi: ");
-    let b = appended(&mut text, a, name);
-    said(&text, b);
+pub fn of(err: &impl Print, name: &[u8], why: io::Error) {
+    let mut line = Line::new();
+    line.put(b"ramdulsi: ");
+    line.put(name);
+    said(err, &mut line, why);
 }
 
 // ramdulsi: NAME, line LINE: REASON, with a word on what it was that failed
-pub fn at_line(name: &[u8], line: u64, what: &[u8]) {
-    let mut digits = [0u8; 20];
-    let k = io::decimal(line, &mut digits);
-    let mut text = [0u8; 4224];
-    let a = appended(&mut text, 0, b"ramdulsi: ");
-    let b = appended(&mut text, a, name);
-    let c = appended(&mut text, b, b", line ");
-    let d = appended(&mut text, c, &digits[..k]);
-    let e = appended(&mut text, d, what);
-    said(&text, e);
+pub fn at_line(err: &impl Print, name: &[u8], line: u64, what: &[u8], why: io::Error) {
+    let mut text = Line::new();
+    text.put(b"ramdulsi: ");
+    text.put(name);
+    let _ = write!(text, ", line {line}");
+    text.put(what);
+    said(err, &mut text, why);
 }

@@ -2,30 +2,33 @@
 use crate::{failures, streams};
 
 // An argument that is no option, named on standard error, and what may be given.
-pub fn unknown(argument: &[u8]) {
-    io::write_all(libc::STDERR_FILENO, b"ramdulsi: unknown option ");
-    io::write_all(libc::STDERR_FILENO, argument);
-    io::write_all(
-        libc::STDERR_FILENO,
+pub fn unknown(err: &impl Print, argument: &[u8]) {
+    let _ = err.write_all(b"ramdulsi: unknown option ");
+    let _ = err.write_all(argument);
+    let _ = err.write_all(
         b"\nusage: ramdulsi [--words] [--lines] [FILE ..]; ramdulsi --help tells more\n",
     );
 }
 
-fn written(bytes: &[u8]) -> bool {
-    if streams::write(bytes) {
-        return true;
+fn written(out: &impl Print, err: &impl Print, bytes: &[u8]) -> bool {
+    match streams::write(out, bytes) {
+        Ok(()) => true,
+        Err(why) => {
+            failures::of(err, b"standard output", why);
+            false
+        }
     }
-    failures::of(b"standard output");
-    false
 }
 
-pub fn version() -> bool {
-    written(b"ramdulsi 0.7.0\n")
+pub fn version(out: &impl Print, err: &impl Print) -> bool {
+    written(out, err, b"ramdulsi 0.7.0\n")
 }
 
 // What is asked, and what is answered.
-fn requests() -> bool {
+fn requests(out: &impl Print, err: &impl Print) -> bool {
     written(
+        out,
+        err,
         b"usage: ramdulsi [--words] [--lines] [FILE ..]\n\
           \n\
           ramdulsi reads requests, one on a line, and answers each with one line. It reads the files that are\n\
@@ -56,8 +59,10 @@ fn requests() -> bool {
     )
 }
 
-fn options() -> bool {
+fn options(out: &impl Print, err: &impl Print) -> bool {
     written(
+        out,
+        err,
         b"Options:\n\
           \x20 --words      after each answer two blanks, # and the answer's name, meaning, place, count and choice in words\n\
           \x20 --lines      before each answer the number of its line, counted from 1 anew in each file\n\
@@ -73,9 +78,9 @@ fn options() -> bool {
     )
 }
 
-pub fn help() -> bool {
-    if !requests() {
+pub fn help(out: &impl Print, err: &impl Print) -> bool {
+    if !requests(out, err) {
         return false;
     }
-    options()
+    options(out, err)
 }

@@ -1,73 +1,53 @@
-// Reads and writes on descriptors, made again where they were interrupted or would have to wait; the caller says what failed.
-ghost use Rattle.io.specs.Counts.{IsPrefixLen};
+// Reads and writes, made again where they were interrupted or would have to wait; the caller says what failed.
+ghost use Rattle.std.specs.Io.{ReadsAtMost};
 
-// Whether a call that failed is to be made again. One that would have to wait on a descriptor that does not wait by itself lets others run
+use std::io::{ErrorKind, Read};
+use std::{io, thread};
+
+// Whether a call that failed is to be made again. One that would have to wait on a stream that does not wait by itself lets others run
 // first.
-fn again() -> bool {
-    let error = os::errno();
-    if error == libc::EAGAIN {
-        libc::sched_yield();
+fn again(why: &io::Error) -> bool {
+    if why.kind() == ErrorKind::WouldBlock {
+        thread::yield_now();
         return true;
     }
-    error == libc::EINTR
+    why.kind() == ErrorKind::Interrupted
 }
 
-#[derive(Clone, Copy)]
-pub struct Got {
-    // bytes at the start of the buffer; 0 at the end of the input
-    pub count: usize,
-    pub failed: bool,
-}
-
-// A read. A proved loop has to end, so this one counts its tries down from a number that none uses up.
-pub fn read(from: i32, buffer: &mut [u8]) -> Got
-    ensures { IsPrefixLen result.count buffer.new }
+// A read: bytes at the start of the buffer, 0 at the end of the input. A proved loop has to end, so this one counts its tries up to a number
+// that none reaches.
+pub fn read(from: &mut impl Read, buffer: &mut [u8]) -> io::Result<usize>
+    ensures { ReadsAtMost result buffer.new }
 {
-    let mut tries = 18446744073709551615u64;
-    while 0 < tries {
-        let got = libc::read(from, buffer);
-        if 0 <= got {
-            let count = io::count(got, buffer);
-            return Got {
-                count: count,
-                failed: false,
-            };
+    for _ in 0..u64::MAX {
+        match from.read(buffer) {
+            Ok(count) => return Ok(count),
+            Err(why) => {
+                if !again(&why) {
+                    return Err(why);
+                }
+            }
         }
-        if !again() {
-            return Got {
-                count: 0,
-                failed: true,
-            };
-        }
-        tries -= 1;
     }
-    Got {
-        count: 0,
-        failed: true,
-    }
+    Err(io::Error::from(ErrorKind::TimedOut))
 }
 
-// Writes all bytes to standard output, or as many as could be written; whether it was all.
-pub fn write(bytes: &[u8]) -> bool {
-    let mut tries = 18446744073709551615u64;
+// Writes all bytes, or as many as could be written; an error where it was not all.
+pub fn write(to: &impl Print, bytes: &[u8]) -> io::Result<()> {
     let mut done = 0;
-    while 0 < tries {
+    for _ in 0..u64::MAX {
         if bytes.len() <= done {
-            return true;
+            return Ok(());
         }
-        let rest = &bytes[done..];
-        let put = libc::write(libc::STDOUT_FILENO, rest);
-        if put == 0 {
-            return false;
-        }
-        if put < 0 {
-            if !again() {
-                return false;
+        match to.write_some(&bytes[done..]) {
+            Ok(0) => return Err(io::Error::from(ErrorKind::WriteZero)),
+            Ok(count) => done += count,
+            Err(why) => {
+                if !again(&why) {
+                    return Err(why);
+                }
             }
-        } else {
-            done += io::count(put, rest);
         }
-        tries -= 1;
     }
-    false
+    Err(io::Error::from(ErrorKind::TimedOut))
 }

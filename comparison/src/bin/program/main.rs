@@ -1,6 +1,6 @@
 //! Tests of the program as a process, which no proof speaks of: what it reads and writes, how it waits, what it says when input or output
 //! fails, and how it ends. `program [--always-0] SEED PATH [NAME ..]`: random lines from the seed, the program at the path, all tests or those
-//! of these names. With `--always-0` the program is the one that `rt check` builds, whose status is always 0.
+//! of these names. With `--always-0` the program is that of the crate ramdulsi, whose status is always 0.
 
 mod answers;
 mod failures;
