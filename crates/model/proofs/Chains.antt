@@ -9,7 +9,7 @@ use lib.ListN.{length, get_or, set, take, drop, length-take}
 use lib.Seq.{get_or-set_other, get_or-take, get_or-drop}
 use borrow.Author.Tests.{eqb-true, eq-eqb, ne_eqb}
 use Rattle.model.specs.declared.Reference.TheVariants.{To}
-use Rattle.model.specs.Question.{◌and◌, ◌or◌, pick, Question, Refusal, Outcome, ok}
+use Rattle.model.specs.Question.{◌and◌, pick, Question, Refusal, Outcome, ok}
 use Rattle.model.specs.Word.{opcode_of, a_of, b_of, c_of}
 use Rattle.model.specs.Types.{Dep, name, Ty, any, ref, maybe, tagged, present, same, span}
 use Rattle.model.specs.Table.{Tables, tables_of, Code, Routine, routine_of, head_of, start_of}

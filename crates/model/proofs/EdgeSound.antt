@@ -1,8 +1,8 @@
 -- The entry of a block, and its edges: where they meet the next block's annotation, the registers do.
 use mathlib.Core.Path.{◌≡◌, refl, sym, ap, ◌∙◌}
-use mathlib.Core.Bool.{true, false, false≢true}
+use mathlib.Core.Bool.{true, false≢true}
 use mathlib.Core.List.{List, map}
-use Prim.Native.Nat.{ℕ, zero, suc, ◌+◌, ◌-◌, ◌^◌, ◌≤◌, ◌<◌}
+use Prim.Native.Nat.{ℕ, zero, suc, ◌+◌, ◌^◌, ◌≤◌, ◌<◌}
 use native.Mathlib.Omega.{arith}
 use native.Mathlib.Nat.{zero-add}
 use lib.Dec.{ltb, eqb}
@@ -11,7 +11,7 @@ use lib.Seq.{ext_get_or}
 use borrow.Author.Tests.{eqb-true, eqb-false, ltb-true, ltb-false}
 use Rattle.model.specs.Question.{◌and◌, pick, Question, Refusal, ok}
 use Rattle.model.specs.Word.{kind_of, record_of, first_of, second_of, with_kind}
-use Rattle.model.specs.Types.{Dep, name, Ty, same, dep_of, of_kind, type_of, word_of, rename, rename_dep}
+use Rattle.model.specs.Types.{Dep, name, Ty, dep_of, of_kind, type_of, word_of, rename, rename_dep}
 use Rattle.model.specs.Table.{Tables, Routine}
 use Rattle.model.specs.Meaning.{Allocation, RecordMeets, RegistersMeet}
 use Rattle.model.specs.Machine.{End, halt, jump, if_equal, if_less, reg, Next, stop, enter, next, targets_exist}

@@ -8,7 +8,7 @@ use native.Mathlib.Omega.{arith}
 use lib.Dec.{eqb}
 use lib.ListN.{get_or}
 use borrow.Author.Tests.{eqb-true, leb-true, eq-eqb, le-leb, ne_eqb}
-use Rattle.model.specs.Question.{◌and◌, ◌or◌}
+use Rattle.model.specs.Question.{◌and◌}
 use Rattle.model.specs.Types.{Dep, name, con, Ty, any, ref, maybe, tagged, present, same, span}
 use Rattle.model.specs.Table.{Tables}
 use Rattle.model.specs.Rules.{Constant, constant_itself, by_opcode_1, by_type_same, by_taken_11, by_equal, Equal, one_value, by_one_constant}

@@ -2,13 +2,13 @@
 use mathlib.Core.Path.{◌≡◌, refl, sym, subst, ◌∙◌}
 use mathlib.Core.Bool.{Bool, true, false}
 use mathlib.Core.List.{List}
-use Prim.Native.Nat.{ℕ, zero, suc, ◌+◌, ◌-◌, ◌≤◌, ◌<◌}
+use Prim.Native.Nat.{ℕ, zero, suc, ◌+◌, ◌≤◌, ◌<◌}
 use native.Mathlib.Omega.{arith}
 use native.Mathlib.Nat.{zero-add, suc-add}
 use lib.Dec.{ltb, eqb}
 use lib.ListN.{length, length-set}
 use borrow.Author.Tests.{ltb-true, eqb-true, eqb-false}
-use Rattle.model.specs.Question.{◌and◌, Question, q7, q8, q9, q18, provided, pick}
+use Rattle.model.specs.Question.{Question, q7, q8, q9, q18, provided, pick}
 use Rattle.model.specs.Table.{Routine}
 use Rattle.model.specs.Machine.{End, halt, jump, if_equal, if_less, Instruction, plain, end, malformed, instruction_at, Effect, put, read, write}
 use Rattle.model.specs.Machine.{effect, registers_after, memory_after, Next, stop, enter, next, targets_exist, State, Step, goes, halts, faults}

@@ -11,7 +11,7 @@ use lib.ListN.{length, get_or, set}
 use borrow.Author.Tests.{eqb-true, eq-eqb, lt-ltb, le-ltb, ltb-true, ltb-false}
 use Rattle.model.specs.declared.Reference.{Reference}
 use Rattle.model.specs.declared.Reference.TheVariants.{To, Nothing}
-use Rattle.model.specs.Question.{◌and◌, ◌or◌, Question, q10, q11, q12, q23, Refusal, Outcome, ok, refused, ask, provided}
+use Rattle.model.specs.Question.{◌or◌, Question, q10, q11, q12, q23, Refusal, Outcome, ok, refused, ask, provided}
 use Rattle.model.specs.Word.{record_of, first_of, second_of, signed}
 use Rattle.model.specs.Types.{Dep, Ty, any, ref, maybe, tagged, present, same, span, dep_of, type_of, rename, rename_dep}
 use Rattle.model.specs.Table.{Tables}

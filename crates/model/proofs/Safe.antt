@@ -9,7 +9,7 @@ use borrow.Author.Tests.{ltb-true, eqb-true}
 use Rattle.model.specs.Question.{pick, ok}
 use Rattle.model.specs.Table.{Tables, tables_of, Routine, routine_of, Code, rows}
 use Rattle.model.specs.Allocation.{Allocated}
-use Rattle.model.specs.Machine.{State, Ran, run_blocks, answer_of, returned, at_halt, Ready, ready, begin}
+use Rattle.model.specs.Machine.{State, Ran, run_blocks, answer_of, returned, Ready, ready, begin}
 use Rattle.model.specs.Check.{judge, block_ask}
 use Rattle.model.specs.Turns.{Task, Standing, waiting, done, World, Call, turn, checking, checking_memory, checking_entry, running, settled}
 use Rattle.model.specs.Turns.{standing_by, turn_run, turned, after_call, at_start, Allowed}

@@ -1,14 +1,14 @@
 -- What passed table questions say: sizes, names, block lengths, and the laws of a list of allocations.
 use mathlib.Core.Path.{◌≡◌, refl, sym, ap, ◌∙◌}
 use mathlib.Core.Logic.{◌⊎◌, inl, inr}
-use mathlib.Core.Bool.{true, false, false≢true}
+use mathlib.Core.Bool.{true, false≢true}
 use mathlib.Core.List.{List, [], ◌∷◌}
-use Prim.Native.Nat.{ℕ, zero, suc, ◌+◌, ◌-◌, ◌*◌, ◌%◌, ◌≤◌, ◌<◌}
+use Prim.Native.Nat.{ℕ, zero, suc, ◌+◌, ◌*◌, ◌%◌, ◌≤◌, ◌<◌}
 use native.Mathlib.Omega.{arith}
 use lib.Dec.{ltb, leb, eqb}
 use lib.ListN.{length, get_or, take, drop, length-take, length-drop}
 use borrow.Author.Tests.{ltb-true, leb-true, le-leb, eqb-true, le-ltb, lt-ltb}
-use Rattle.model.specs.Question.{◌and◌, ◌or◌, pick, ok}
+use Rattle.model.specs.Question.{◌and◌, pick, ok}
 use Rattle.model.specs.Word.{kind_of, record_of, first_of, second_of}
 use Rattle.model.specs.Types.{dep_of, of_kind, type_of}
 use Rattle.model.specs.Table.{Tables, field_of, start_of, routine_of, uses_first, uses_second, dependency, well_made, count_ask, field_well, fields_ask}

@@ -9,7 +9,7 @@ use lib.Dec.{ltb, eqb}
 use lib.ListN.{length, get_or}
 use borrow.Author.Tests.{eqb-true, eqb-false, ltb-true, lt-ltb}
 use Rattle.model.specs.declared.Reference.TheVariants.{To, Nothing}
-use Rattle.model.specs.Question.{◌and◌, ok}
+use Rattle.model.specs.Question.{ok}
 use Rattle.model.specs.Types.{Dep, Ty, any, ref, maybe, tagged, present, same, span}
 use Rattle.model.specs.Table.{Tables, tables_of, Routine, routine_of, Code, last_at}
 use Rattle.model.specs.Machine.{Instruction, plain, end, malformed, form_ask}

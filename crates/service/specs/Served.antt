@@ -1,7 +1,7 @@
 -- What the program writes for the bytes that it reads, however they come in pieces.
 use Rattle.std.specs.Prelude.{ℕ, suc, Bool, true, List, [], ◌∷◌, ◌++◌, ◌==◌}
 use Rattle.model.specs.Question.{pick}
-use Rattle.reader.specs.Reader.{Reader, reader, on_line, fresh_line, past, step, reads, at_end}
+use Rattle.reader.specs.Reader.{Reader, on_line, fresh_line, past, step, reads, at_end}
 use Rattle.protocol.specs.Said.{Said, said}
 use Rattle.answers.specs.Answers.{line_text, refused}
 

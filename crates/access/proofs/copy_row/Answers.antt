@@ -1,9 +1,6 @@
 -- `access::copy_row` meets its contract. The invariant: the words from place k on, laid, come to what all come to.
-use mathlib.Core.Path.{◌≡◌, refl, sym, ◌∙◌}
-use Prim.Native.Nat.{◌+◌, ◌-◌, ◌≤◌}
+use mathlib.Core.Path.{refl, sym, ◌∙◌}
 use native.Mathlib.Omega.{arith}
-use lib.ListN.{length, drop}
-use Rattle.model.specs.Reading.{laid_at}
 use Rattle.access.proofs.Fields.{laid_on, laid_end, laid-start}
 use Rattle.access.proofs.copy_row.Goals as goal
 

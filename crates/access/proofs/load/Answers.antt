@@ -3,7 +3,6 @@ use mathlib.Core.Path.{refl, sym, ◌∙◌}
 use native.Mathlib.Omega.{arith}
 use Rattle.model.specs.Question.{q12}
 use Rattle.model.proofs.Logic.{answer-none, answer-of}
-use borrow.Author.Rules.{rules}
 use Rattle.access.proofs.Outcomes.{number-of, asked_of}
 use Rattle.access.proofs.Fields.{load-own, load-other}
 use Rattle.access.proofs.load.Goals as goal

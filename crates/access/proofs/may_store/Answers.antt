@@ -1,5 +1,4 @@
 -- `access::may_store` meets its contract.
-use borrow.Author.Rules.{rules}
 use Rattle.access.proofs.Fields.{may-store}
 use Rattle.access.proofs.may_store.Goals as goal
 

@@ -1,5 +1,4 @@
 -- `access::name_all` meets its contract.
-use borrow.Author.Rules.{rules}
 use Rattle.access.proofs.Fields.{names-are}
 use Rattle.access.proofs.name_all.Goals as goal
 

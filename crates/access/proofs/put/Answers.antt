@@ -1,7 +1,6 @@
 -- `access::put` meets its contract: nothing was tested.
 use mathlib.Core.Path.{refl}
 use Rattle.known.proofs.Stands.{paired-nothing}
-use borrow.Author.Rules.{rules}
 use Rattle.access.proofs.put.Goals as goal
 
 pub returns : goal.returns

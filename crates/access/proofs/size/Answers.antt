@@ -1,6 +1,5 @@
 -- `access::size` meets its contract.
 use native.Mathlib.Omega.{arith}
-use borrow.Author.Rules.{rules}
 use Rattle.access.proofs.Fields.{size-past, size-at}
 use Rattle.access.proofs.size.Goals as goal
 

@@ -3,7 +3,6 @@ use mathlib.Core.Path.{sym}
 use borrow.Author.Tests.{eq-eqb, ne_eqb}
 use Rattle.model.proofs.Logic.{pick_true, pick-false}
 use Rattle.answers.proofs.Gave.{gives_same}
-use borrow.Author.Rules.{rules}
 use Rattle.answers.proofs.answered.Goals as goal
 
 pub returns-then-l-eq-MALFORMED : goal.returns-then-l-eq-MALFORMED

@@ -1,6 +1,5 @@
 -- `cost` meets its contract.
 use native.Mathlib.Omega.{arith}
-use borrow.Author.Rules.{rules}
 use Rattle.output.proofs.Appending.{after, same_text}
 use Rattle.answers.proofs.Replies.{uncounted, counted-text}
 use Rattle.answers.proofs.cost.Goals as goal

@@ -1,6 +1,5 @@
 -- `ended` meets its contract.
 use Rattle.answers.proofs.Replies.{line-ended}
-use borrow.Author.Rules.{rules}
 use Rattle.answers.proofs.ended.Goals as goal
 
 pub returns : goal.returns

@@ -1,7 +1,6 @@
 -- `numbered` meets its contract.
 use native.Mathlib.Omega.{arith}
 use Rattle.answers.proofs.Replies.{unnumbered, with_number}
-use borrow.Author.Rules.{rules}
 use Rattle.answers.proofs.numbered.Goals as goal
 
 pub returns-then-not-lined : goal.returns-then-not-lined

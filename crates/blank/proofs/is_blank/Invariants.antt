@@ -1,13 +1,10 @@
 -- `blank::is_blank` meets its contract. The invariant: the words from place f on come to what all come to.
-use mathlib.Core.Path.{◌≡◌, refl}
+use mathlib.Core.Path.{◌≡◌}
 use Prim.Native.Nat.{◌≤◌, ◌-◌}
-use native.Mathlib.Omega.{arith}
 use lib.Dec.{eqb}
 use lib.ListN.{get_or}
-use borrow.Author.Tests.{eq-eqb, ne_eqb}
 use Rattle.model.specs.Question.{every}
 use Rattle.blank.specs.Force.{blank}
-use Rattle.table.proofs.Questions.{every-on, every-stops, every-end}
 use Rattle.blank.proofs.is_blank.Given as goal
 
 abbrev pub invariant-loop-f : goal.invariant-loop-f

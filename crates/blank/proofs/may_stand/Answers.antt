@@ -1,6 +1,5 @@
 -- `blank::may_stand` meets its contract.
 use Rattle.model.specs.Question.{◌or◌}
-use borrow.Author.Rules.{rules}
 use Rattle.blank.proofs.may_stand.Goals as goal
 
 pub returns-then-annotation_well : goal.returns-then-annotation_well

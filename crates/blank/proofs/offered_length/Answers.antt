@@ -1,7 +1,6 @@
 -- `blank::offered_length` meets its contract.
 use mathlib.Core.Path.{◌∙◌}
 use native.Mathlib.Omega.{arith}
-use borrow.Author.Rules.{rules}
 use Rattle.blank.proofs.Laws.{length-broken, length-long, length-well}
 use Rattle.blank.proofs.offered_length.Goals as goal
 

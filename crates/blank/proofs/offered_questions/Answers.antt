@@ -1,6 +1,5 @@
 -- `blank::offered_questions` meets its contract: past each question, those left come to what all come to.
 use mathlib.Core.Path.{◌∙◌}
-use borrow.Author.Rules.{rules}
 use Rattle.table.proofs.Questions.{after-yes, at-no, at_last}
 use Rattle.blank.proofs.Laws.{lengths-well, four-blank, three-blank}
 use Rattle.blank.proofs.offered_questions.Goals as goal

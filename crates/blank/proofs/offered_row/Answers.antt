@@ -1,7 +1,6 @@
 -- `blank::offered_row` meets its contract: the part from k * 8 on that is eight words long.
 use native.Mathlib.Nat.{add-sub_cancel_left}
 use Rattle.model.specs.Blank.{offered_row}
-use borrow.Author.Rules.{rules}
 use Rattle.blank.proofs.offered_row.Goals as goal
 
 pub returns : goal.returns

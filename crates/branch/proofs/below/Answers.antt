@@ -1,5 +1,4 @@
 -- `branch::below` meets its contract: the next kind, by the value's end.
-use borrow.Author.Rules.{rules}
 use Rattle.branch.proofs.Ends.{below-told}
 use Rattle.branch.proofs.below.Goals as goal
 

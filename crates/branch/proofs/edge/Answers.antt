@@ -1,5 +1,4 @@
 -- `branch::edge` meets its contract.
-use borrow.Author.Rules.{rules}
 use Rattle.branch.proofs.edge.Goals as goal
 
 pub returns : goal.returns

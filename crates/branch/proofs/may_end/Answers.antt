@@ -1,6 +1,5 @@
 -- `branch::may_end` meets its contract: Q7 to Q9, then Q13.
 use native.Mathlib.Omega.{arith}
-use borrow.Author.Rules.{rules}
 use Rattle.instruction.proofs.Laws.{ending-word}
 use Rattle.branch.proofs.Ends.{end-form, end-open, end-shut}
 use Rattle.branch.proofs.may_end.Goals as goal

@@ -1,5 +1,4 @@
 -- `branch::not_below` meets its contract: the next kind, by the value's start.
-use borrow.Author.Rules.{rules}
 use Rattle.branch.proofs.Ends.{not-below-told}
 use Rattle.branch.proofs.not_below.Goals as goal
 

@@ -1,7 +1,6 @@
 -- `blanks` meets its contract.
 use Rattle.protocol.specs.Said.{parts_in}
 use Rattle.calls.proofs.Called.{blanks-counted}
-use borrow.Author.Rules.{rules}
 use Rattle.calls.proofs.blanks.Goals as goal
 
 pub returns : goal.returns

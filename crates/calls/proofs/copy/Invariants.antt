@@ -1,11 +1,8 @@
 -- `copy` meets its contract.
-use mathlib.Core.Path.{◌≡◌, refl, ◌∙◌}
+use mathlib.Core.Path.{◌≡◌}
 use mathlib.Core.List.{◌++◌}
 use Prim.Native.Nat.{◌-◌, ◌≤◌}
-use native.Mathlib.Omega.{arith}
-use lib.ListN.{length, get_or, take, drop, length-set}
-use borrow.Author.Rules.{rules}
-use Rattle.calls.proofs.Called.{copied_more, all-copied}
+use lib.ListN.{length, take, drop}
 use Rattle.calls.proofs.copy.Given as goal
 
 abbrev pub invariant-loop-i : goal.invariant-loop-i

@@ -1,7 +1,6 @@
 -- `memory_check` meets its contract.
 use Rattle.protocol.specs.Said.{parts_in}
 use Rattle.calls.proofs.Called.{memory-check-gave}
-use borrow.Author.Rules.{rules}
 use Rattle.calls.proofs.memory_check.Goals as goal
 
 pub returns : goal.returns

@@ -3,7 +3,6 @@ use mathlib.Core.Path.{ap}
 use native.Mathlib.Omega.{arith}
 use lib.Dec.{eqb}
 use Rattle.model.specs.declared.CheckAnswer.{CheckAnswer}
-use borrow.Author.Rules.{rules}
 use Rattle.choice.proofs.block_passes.Goals as goal
 
 pub block-v-requires : goal.block-v-requires

@@ -1,12 +1,7 @@
 -- `choice::first_left` meets its contract. The invariant: no choice below i is left.
-use mathlib.Core.Path.{◌≡◌, sym, ◌∙◌}
-use mathlib.Core.Bool.{true}
-use Prim.Native.Nat.{ℕ, ◌-◌, ◌≤◌, ◌<◌}
+use mathlib.Core.Path.{sym, ◌∙◌}
 use native.Mathlib.Omega.{arith}
-use lib.ListN.{get_or}
-use borrow.Author.Rules.{rules}
 use Rattle.model.proofs.Logic.{by_equality}
-use Rattle.choice.specs.Choices.{is_choice}
 use Rattle.choice.proofs.Choosing.{fallen, standing}
 use Rattle.choice.proofs.first_left.Goals as goal
 

@@ -1,13 +1,9 @@
 -- `choice::first_left` meets its contract. The invariant: no choice below i is left.
-use mathlib.Core.Path.{◌≡◌, sym, ◌∙◌}
+use mathlib.Core.Path.{◌≡◌}
 use mathlib.Core.Bool.{true}
 use Prim.Native.Nat.{ℕ, ◌-◌, ◌≤◌, ◌<◌}
-use native.Mathlib.Omega.{arith}
 use lib.ListN.{get_or}
-use borrow.Author.Rules.{rules}
-use Rattle.model.proofs.Logic.{by_equality}
 use Rattle.choice.specs.Choices.{is_choice}
-use Rattle.choice.proofs.Choosing.{fallen, standing}
 use Rattle.choice.proofs.first_left.Given as goal
 
 abbrev pub invariant-loop-i : goal.invariant-loop-i

@@ -1,5 +1,4 @@
 -- `choice::mosts` meets its contract.
-use borrow.Author.Rules.{rules}
 use Rattle.choice.proofs.mosts.Goals as goal
 
 pub returns : goal.returns

@@ -1,7 +1,6 @@
 -- `choice::refused` meets its contract.
 use mathlib.Core.Path.{◌∙◌}
 use native.Mathlib.Omega.{arith}
-use borrow.Author.Rules.{rules}
 use Rattle.choice.proofs.Lists.{choosing-same}
 use Rattle.choice.proofs.refused.Goals as goal
 

@@ -1,6 +1,5 @@
 -- `choice::stands` meets its contract.
 use borrow.Author.Tests.{eq-eqb, ne_eqb}
-use borrow.Author.Rules.{rules}
 use Rattle.model.specs.Question.{◌and◌}
 use Rattle.choice.proofs.stands.Goals as goal
 

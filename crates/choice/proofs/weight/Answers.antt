@@ -1,5 +1,4 @@
 -- `choice::weight` meets its contract.
-use borrow.Author.Rules.{rules}
 use Rattle.choice.proofs.Numbers.{weight-own, weight-next, weight-target, weight-none}
 use Rattle.choice.proofs.weight.Goals as goal
 

@@ -1,6 +1,5 @@
 -- `choice::weights` meets its contract.
 use mathlib.Core.Path.{refl}
-use borrow.Author.Rules.{rules}
 use Rattle.choice.proofs.Numbers.{weighs}
 use Rattle.choice.proofs.weights.Goals as goal
 

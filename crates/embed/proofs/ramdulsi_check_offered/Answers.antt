@@ -1,6 +1,5 @@
 -- `embed::ramdulsi_check_offered` meets its contract.
 use mathlib.Core.Path.{ap, ◌∙◌}
-use borrow.Author.Rules.{rules}
 use Rattle.embed.specs.Lent.{counted_place}
 use Rattle.embed.proofs.ramdulsi_check_offered.Goals as goal
 

@@ -1,6 +1,5 @@
 -- `embed::ramdulsi_entry_check` meets its contract.
 use mathlib.Core.Path.{ap, ◌∙◌}
-use borrow.Author.Rules.{rules}
 use Rattle.embed.specs.Lent.{place_of}
 use Rattle.embed.proofs.ramdulsi_entry_check.Goals as goal
 

@@ -1,6 +1,5 @@
 -- `embed::ramdulsi_run` meets its contract.
 use mathlib.Core.Path.{ap, ◌∙◌}
-use borrow.Author.Rules.{rules}
 use Rattle.embed.specs.Lent.{ended_at}
 use Rattle.embed.proofs.ramdulsi_run.Goals as goal
 

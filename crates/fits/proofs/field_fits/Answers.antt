@@ -1,5 +1,4 @@
 -- `fits::field_fits` meets its contract.
-use borrow.Author.Rules.{rules}
 use Rattle.fits.proofs.Answers.{place_is}
 use Rattle.fits.proofs.field_fits.Goals as goal
 

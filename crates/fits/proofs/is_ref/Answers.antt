@@ -1,7 +1,6 @@
 -- `fits::is_ref` meets its contract.
 use mathlib.Core.Path.{refl}
 use Rattle.fits.proofs.Answers.{ref-told}
-use borrow.Author.Rules.{rules}
 use Rattle.fits.proofs.is_ref.Goals as goal
 
 pub returns-in-Record : goal.returns-in-Record

@@ -1,7 +1,6 @@
 -- `fits::reference` meets its contract.
 use mathlib.Core.Path.{refl}
 use Rattle.fits.proofs.Answers.{reference-told}
-use borrow.Author.Rules.{rules}
 use Rattle.fits.proofs.reference.Goals as goal
 
 pub returns-in-Record : goal.returns-in-Record

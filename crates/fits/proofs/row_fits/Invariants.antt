@@ -2,14 +2,11 @@
 use mathlib.Core.Path.{◌≡◌}
 use mathlib.Core.List.{List}
 use Prim.Native.Nat.{ℕ, ◌-◌, ◌≤◌}
-use native.Mathlib.Omega.{arith}
 use Rattle.model.specs.Question.{every}
 use Rattle.model.specs.Table.{tables_of}
 use Rattle.model.specs.Reading.{row_fits}
-use Rattle.table.proofs.Questions.{test-false, test-true, every-on, every-stops, every-end}
 use Rattle.known.specs.Numbers.{values_of, Paired}
 use Rattle.fits.specs.Fits.{place_fits}
-use Rattle.fits.proofs.Answers.{row_is}
 use Rattle.fits.proofs.row_fits.Given as goal
 
 abbrev pub invariant-loop-i : goal.invariant-loop-i

@@ -1,8 +1,6 @@
 -- `grammar::begins` meets its contract. The invariant: what is left of the name begins as the whole does.
-use mathlib.Core.Path.{◌≡◌, refl, sym, ◌∙◌}
-use native.Mathlib.Omega.{arith}
+use mathlib.Core.Path.{◌≡◌}
 use Rattle.grammar.specs.Grammar.{begins}
-use Rattle.grammar.proofs.Names.{begins-yes, begins-on, begins-end}
 use Rattle.grammar.proofs.begins.Given as goal
 
 abbrev pub invariant-loop-k : goal.invariant-loop-k

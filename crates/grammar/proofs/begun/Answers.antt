@@ -1,11 +1,7 @@
 -- `grammar::begun` meets its contract. The invariant: no name before i is begun.
-use mathlib.Core.Path.{◌≡◌, refl, sym, ◌∙◌}
-use Prim.Native.Nat.{◌-◌, ◌≤◌}
+use mathlib.Core.Path.{refl, sym, ◌∙◌}
 use native.Mathlib.Omega.{arith}
-use lib.ListN.{length, drop}
-use Rattle.grammar.specs.Grammar.{begun}
 use Rattle.grammar.proofs.Names.{begun-yes, begun-on, begun-end}
-use borrow.Author.Rules.{rules}
 use Rattle.grammar.proofs.begun.Goals as goal
 
 pub loop-i-init : goal.loop-i-init

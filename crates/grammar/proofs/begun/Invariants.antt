@@ -1,11 +1,8 @@
 -- `grammar::begun` meets its contract. The invariant: no name before i is begun.
-use mathlib.Core.Path.{◌≡◌, refl, sym, ◌∙◌}
+use mathlib.Core.Path.{◌≡◌}
 use Prim.Native.Nat.{◌-◌, ◌≤◌}
-use native.Mathlib.Omega.{arith}
 use lib.ListN.{length, drop}
 use Rattle.grammar.specs.Grammar.{begun}
-use Rattle.grammar.proofs.Names.{begun-yes, begun-on, begun-end}
-use borrow.Author.Rules.{rules}
 use Rattle.grammar.proofs.begun.Given as goal
 
 abbrev pub invariant-loop-i : goal.invariant-loop-i

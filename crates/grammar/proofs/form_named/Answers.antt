@@ -1,6 +1,5 @@
 -- `grammar::form_named` meets its contract: the names of the code are the names of the definition.
 use Rattle.grammar.specs.Grammar.{names}
-use borrow.Author.Rules.{rules}
 use Rattle.grammar.proofs.form_named.Goals as goal
 
 pub returns : goal.returns

@@ -1,6 +1,5 @@
 -- `grammar::largest` meets its contract.
 use Rattle.grammar.proofs.Rows.{bound-word, bound-count, bound-long}
-use borrow.Author.Rules.{rules}
 use Rattle.grammar.proofs.largest.Goals as goal
 
 pub returns-then-left-gt0 : goal.returns-then-left-gt0

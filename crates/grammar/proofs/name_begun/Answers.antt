@@ -1,6 +1,5 @@
 -- `grammar::name_begun` meets its contract: the names of the code are the names of the definition.
 use Rattle.grammar.specs.Grammar.{names}
-use borrow.Author.Rules.{rules}
 use Rattle.grammar.proofs.name_begun.Goals as goal
 
 pub returns : goal.returns

@@ -1,9 +1,6 @@
 -- `grammar::named` meets its contract. The invariant: the name is none of those before i.
-use mathlib.Core.Path.{◌≡◌, sym, ◌∙◌}
-use Prim.Native.Nat.{◌+◌, ◌-◌, ◌≤◌}
+use mathlib.Core.Path.{sym, ◌∙◌}
 use native.Mathlib.Omega.{arith}
-use lib.ListN.{length, drop}
-use Rattle.grammar.specs.Grammar.{named}
 use Rattle.grammar.proofs.Names.{named-yes, named-on, named_end}
 use Rattle.grammar.proofs.named.Goals as goal
 

@@ -1,10 +1,8 @@
 -- `grammar::named` meets its contract. The invariant: the name is none of those before i.
-use mathlib.Core.Path.{◌≡◌, sym, ◌∙◌}
+use mathlib.Core.Path.{◌≡◌}
 use Prim.Native.Nat.{◌+◌, ◌-◌, ◌≤◌}
-use native.Mathlib.Omega.{arith}
 use lib.ListN.{length, drop}
 use Rattle.grammar.specs.Grammar.{named}
-use Rattle.grammar.proofs.Names.{named-yes, named-on, named_end}
 use Rattle.grammar.proofs.named.Given as goal
 
 abbrev pub invariant-loop-i : goal.invariant-loop-i

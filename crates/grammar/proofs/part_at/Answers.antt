@@ -2,7 +2,6 @@
 use mathlib.Core.Path.{refl}
 use Rattle.grammar.specs.Grammar.{part_at, forms}
 use Rattle.grammar.proofs.Rows.{form-past, part-past}
-use borrow.Author.Rules.{rules}
 use Rattle.grammar.proofs.part_at.Goals as goal
 
 pub returns-then-form-ge-ROWS : goal.returns-then-form-ge-ROWS

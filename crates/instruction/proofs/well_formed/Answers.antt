@@ -1,6 +1,5 @@
 -- `instruction::well_formed` meets its contract: it asks what the row of the word's opcode says.
 use native.Mathlib.Omega.{arith}
-use borrow.Author.Rules.{rules}
 use Rattle.instruction.proofs.Rows.{no_row, set-bit, no-bit}
 use Rattle.instruction.proofs.well_formed.Goals as goal
 

@@ -1,7 +1,6 @@
 -- `known::constant_or` meets its contract.
 use native.Mathlib.Omega.{arith}
 use Rattle.known.proofs.Numbers.{constant-or-none, constant-or-held}
-use borrow.Author.Rules.{rules}
 use Rattle.known.proofs.constant_or.Goals as goal
 
 pub returns-then-k-eq0 : goal.returns-then-k-eq0

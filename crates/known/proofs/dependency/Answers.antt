@@ -2,7 +2,6 @@
 use mathlib.Core.Path.{ap, ◌∙◌}
 use Prim.Native.Nat.{ℕ}
 use Rattle.known.specs.Numbers.{sibling_of}
-use borrow.Author.Rules.{rules}
 use Rattle.known.proofs.dependency.Goals as goal
 
 pub returns : goal.returns

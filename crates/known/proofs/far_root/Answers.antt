@@ -1,10 +1,7 @@
 -- `known::far_root` meets its contract. The invariant: the steps that are left lead where all of them do.
-use mathlib.Core.Path.{◌≡◌, refl, sym, ◌∙◌}
-use mathlib.Core.List.{List}
-use Prim.Native.Nat.{ℕ, ◌-◌, ◌≤◌, ◌<◌}
+use mathlib.Core.Path.{refl, sym, ◌∙◌}
+use Prim.Native.Nat.{◌-◌}
 use native.Mathlib.Omega.{arith}
-use Rattle.model.specs.Values.{along}
-use Rattle.known.specs.Numbers.{values_of}
 use Rattle.known.proofs.Chains.{along-next, root_ends, root-circles}
 use Rattle.known.proofs.far_root.Goals as goal
 

@@ -1,11 +1,9 @@
 -- `known::far_root` meets its contract. The invariant: the steps that are left lead where all of them do.
-use mathlib.Core.Path.{◌≡◌, refl, sym, ◌∙◌}
+use mathlib.Core.Path.{◌≡◌}
 use mathlib.Core.List.{List}
 use Prim.Native.Nat.{ℕ, ◌-◌, ◌≤◌, ◌<◌}
-use native.Mathlib.Omega.{arith}
 use Rattle.model.specs.Values.{along}
 use Rattle.known.specs.Numbers.{values_of}
-use Rattle.known.proofs.Chains.{along-next, root_ends, root-circles}
 use Rattle.known.proofs.far_root.Given as goal
 
 abbrev pub invariant-loop-i : goal.invariant-loop-i

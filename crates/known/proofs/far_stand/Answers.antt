@@ -2,7 +2,6 @@
 use native.Mathlib.Omega.{arith}
 use Rattle.known.proofs.Chains.{root-far}
 use Rattle.known.proofs.Stands.{stand_of}
-use borrow.Author.Rules.{rules}
 use Rattle.known.proofs.far_stand.Goals as goal
 
 pub returns : goal.returns

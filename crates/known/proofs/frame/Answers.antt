@@ -1,7 +1,6 @@
 -- `known::frame` meets its contract.
 use native.Mathlib.Omega.{arith}
 use Rattle.known.proofs.Numbers.{frame_is}
-use borrow.Author.Rules.{rules}
 use Rattle.known.proofs.frame.Goals as goal
 
 pub returns : goal.returns

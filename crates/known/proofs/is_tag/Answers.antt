@@ -1,7 +1,6 @@
 -- `known::is_tag` meets its contract.
 use native.Mathlib.Omega.{arith}
 use Rattle.known.proofs.Answers.{tag-none, tag-past, tag_is}
-use borrow.Author.Rules.{rules}
 use Rattle.known.proofs.is_tag.Goals as goal
 
 pub returns-then-r-lt256 : goal.returns-then-r-lt256

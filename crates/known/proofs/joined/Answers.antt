@@ -1,7 +1,6 @@
 -- `known::joined` meets its contract.
 use native.Mathlib.Omega.{arith}
 use Rattle.known.proofs.Answers.{equal-alike, equal-stand, equal-partner}
-use borrow.Author.Rules.{rules}
 use Rattle.known.proofs.joined.Goals as goal
 
 pub returns-then-leads_to : goal.returns-then-leads_to

@@ -1,7 +1,6 @@
 -- `known::known_bound` meets its contract.
 use native.Mathlib.Omega.{arith}
 use Rattle.known.proofs.Answers.{equal-one, equal-constants}
-use borrow.Author.Rules.{rules}
 use Rattle.known.proofs.known_bound.Goals as goal
 
 pub returns-then-x-y : goal.returns-then-x-y

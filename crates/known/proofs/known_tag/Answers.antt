@@ -1,7 +1,6 @@
 -- `known::known_tag` meets its contract.
 use mathlib.Core.Path.{sym, ◌∙◌}
 use Rattle.known.proofs.Answers.{passes-stand, passes-partner}
-use borrow.Author.Rules.{rules}
 use Rattle.known.proofs.known_tag.Goals as goal
 
 pub returns-then-is_tag : goal.returns-then-is_tag

@@ -1,7 +1,6 @@
 -- `known::known_type` meets its contract.
 use native.Mathlib.Omega.{arith}
 use Rattle.known.proofs.Answers.{type-none, type-past, type-of-tag}
-use borrow.Author.Rules.{rules}
 use Rattle.known.proofs.known_type.Goals as goal
 
 pub returns-then-r-lt256 : goal.returns-then-r-lt256

@@ -3,7 +3,6 @@ use mathlib.Core.Path.{sym, ◌∙◌}
 use native.Mathlib.Omega.{arith}
 use borrow.Author.Tests.{eq-eqb, ne_eqb}
 use Rattle.known.proofs.Answers.{passes-stand, passes-partner, zero-known, zero_held}
-use borrow.Author.Rules.{rules}
 use Rattle.known.proofs.known_zero.Goals as goal
 
 pub returns-then-r-eq256 : goal.returns-then-r-eq256

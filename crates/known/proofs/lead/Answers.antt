@@ -2,7 +2,6 @@
 use mathlib.Core.Path.{sym}
 use native.Mathlib.Omega.{arith}
 use Rattle.known.proofs.Chains.{lead-other, lead-constant, lead-away, lead_near}
-use borrow.Author.Rules.{rules}
 use Rattle.known.proofs.lead.Goals as goal
 
 pub returns-then-kind-ne-SAME : goal.returns-then-kind-ne-SAME

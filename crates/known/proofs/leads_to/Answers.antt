@@ -4,7 +4,6 @@ use mathlib.Core.Bool.{false≢true}
 use native.Mathlib.Omega.{arith}
 use borrow.Author.Tests.{eqb-true}
 use Rattle.known.proofs.Chains.{led-alike}
-use borrow.Author.Rules.{rules}
 use Rattle.known.proofs.leads_to.Goals as goal
 
 pub returns-then-x-ge256 : goal.returns-then-x-ge256

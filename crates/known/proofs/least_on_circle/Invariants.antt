@@ -1,12 +1,9 @@
 -- `known::least_on_circle` meets its contract. The invariant: the steps that are left come to what all come to.
-use mathlib.Core.Path.{◌≡◌, refl, ◌∙◌}
+use mathlib.Core.Path.{◌≡◌}
 use mathlib.Core.List.{List}
-use mathlib.Core.Logic.{⊎_elim}
 use Prim.Native.Nat.{ℕ, ◌-◌, ◌≤◌, ◌<◌}
-use native.Mathlib.Omega.{arith}
 use Rattle.model.specs.Values.{least_along}
 use Rattle.known.specs.Numbers.{values_of}
-use Rattle.known.proofs.Chains.{least-lower, least_kept, least-done}
 use Rattle.known.proofs.least_on_circle.Given as goal
 
 abbrev pub invariant-loop-i : goal.invariant-loop-i

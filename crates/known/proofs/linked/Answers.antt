@@ -3,7 +3,6 @@ use mathlib.Core.Bool.{false≢true}
 use native.Mathlib.Omega.{arith}
 use borrow.Author.Tests.{ltb-false}
 use Rattle.known.proofs.Chains.{lead-other, lead-constant, root-constant, root-itself}
-use borrow.Author.Rules.{rules}
 use Rattle.known.proofs.linked.Goals as goal
 
 pub returns-then-x-ge256 : goal.returns-then-x-ge256

@@ -1,7 +1,6 @@
 -- `known::named` meets its contract.
 use native.Mathlib.Omega.{arith}
 use Rattle.known.proofs.Numbers.{named-name, named-constant}
-use borrow.Author.Rules.{rules}
 use Rattle.known.proofs.named.Goals as goal
 
 pub returns-then-x-lt-CONSTANTS : goal.returns-then-x-lt-CONSTANTS

@@ -3,7 +3,6 @@ use native.Mathlib.Omega.{arith}
 use Rattle.known.specs.Numbers.{values_of}
 use Rattle.known.proofs.Chains.{lead-other, lead-constant, root-constant, root-itself}
 use Rattle.known.proofs.Answers.{constant_itself, constant-any, constant-typed, constant-other, constant-named, constant-same}
-use borrow.Author.Rules.{rules}
 use Rattle.known.proofs.own_constant.Goals as goal
 
 pub returns-then-x-ge256 : goal.returns-then-x-ge256

@@ -1,7 +1,6 @@
 -- `known::sibling` meets its contract.
 use native.Mathlib.Omega.{arith}
 use Rattle.known.proofs.Numbers.{sibling-name, sibling-constant}
-use borrow.Author.Rules.{rules}
 use Rattle.known.proofs.sibling.Goals as goal
 
 pub returns-then-x-lt-CONSTANTS : goal.returns-then-x-lt-CONSTANTS

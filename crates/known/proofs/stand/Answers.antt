@@ -1,6 +1,5 @@
 -- `known::stand` meets its contract.
 use Rattle.known.proofs.Stands.{stand_of}
-use borrow.Author.Rules.{rules}
 use Rattle.known.proofs.stand.Goals as goal
 
 pub far_stand-requires : goal.far_stand-requires

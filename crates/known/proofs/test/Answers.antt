@@ -1,7 +1,6 @@
 -- `known::test` meets its contract.
 use native.Mathlib.Omega.{arith}
 use Rattle.known.proofs.Answers.{test-pairs}
-use borrow.Author.Rules.{rules}
 use Rattle.known.proofs.test.Goals as goal
 
 pub returns-then-equal-eq0 : goal.returns-then-equal-eq0

@@ -2,7 +2,6 @@
 use mathlib.Core.Path.{◌∙◌}
 use native.Mathlib.Omega.{arith}
 use Rattle.layout.proofs.Layouts.{allocations-odd, allocations-many, allocations-rows}
-use borrow.Author.Rules.{rules}
 use Rattle.layout.proofs.allocations.Goals as goal
 
 pub returns-then-allocations-ne0 : goal.returns-then-allocations-ne0

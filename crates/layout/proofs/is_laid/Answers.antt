@@ -1,7 +1,6 @@
 -- `layout::is_laid` meets its contract, by the test that led to each return.
 use native.Mathlib.Omega.{arith}
 use Rattle.layout.proofs.Layouts.{laid-type, laid-low, laid_end}
-use borrow.Author.Rules.{rules}
 use Rattle.layout.proofs.is_laid.Goals as goal
 
 pub returns-then-types-t : goal.returns-then-types-t

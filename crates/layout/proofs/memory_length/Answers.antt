@@ -3,7 +3,6 @@ use mathlib.Core.Path.{◌∙◌}
 use native.Mathlib.Omega.{arith}
 use Rattle.model.specs.Table.{memory_length_ask}
 use Rattle.table.proofs.Questions.{too-low, too-high, in_bounds, ask-no, asked-yes}
-use borrow.Author.Rules.{rules}
 use Rattle.layout.proofs.memory_length.Goals as goal
 
 pub returns-then-n-lt1 : goal.returns-then-n-lt1

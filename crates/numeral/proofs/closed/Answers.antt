@@ -3,7 +3,6 @@ use mathlib.Core.Path.{sym, ◌∙◌}
 use native.Mathlib.Omega.{arith}
 use borrow.Author.Tests.{not-true, not-false}
 use Rattle.numeral.proofs.Scans.{closed-other, closed_none, closed-ends}
-use borrow.Author.Rules.{rules}
 use Rattle.numeral.proofs.closed.Goals as goal
 
 pub returns-then-not-is_blank : goal.returns-then-not-is_blank

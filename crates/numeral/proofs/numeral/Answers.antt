@@ -1,7 +1,6 @@
 -- `numeral::numeral` meets its contract: a law for each stretch of bytes.
 use native.Mathlib.Omega.{arith}
 use Rattle.numeral.proofs.Numerals.{numeral-low, numeral-decimal, numeral-between, numeral-capital, numeral-middle, numeral-small, numeral-high}
-use borrow.Author.Rules.{rules}
 use Rattle.numeral.proofs.numeral.Goals as goal
 
 pub returns-then-byte-lt48 : goal.returns-then-byte-lt48

@@ -1,6 +1,5 @@
 -- `numeral::token` meets its contract.
 use Rattle.numeral.proofs.Scans.{number-hex, number-decimal}
-use borrow.Author.Rules.{rules}
 use Rattle.numeral.proofs.token.Goals as goal
 
 pub returns-then-decimal-eq0 : goal.returns-then-decimal-eq0

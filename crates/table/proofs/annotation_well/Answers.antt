@@ -1,6 +1,5 @@
 -- `table::annotation_well` meets its contract: every word has its place, and none is marked.
 use mathlib.Core.Path.{◌∙◌}
-use borrow.Author.Rules.{rules}
 use Rattle.table.proofs.Answers.{annotation-is}
 use Rattle.table.proofs.annotation_well.Goals as goal
 

@@ -5,7 +5,6 @@ use Prim.Native.Nat.{ℕ}
 use native.Mathlib.Omega.{arith}
 use lib.ListN.{length, get_or}
 use Rattle.table.proofs.Laws.{row-length}
-use borrow.Author.Rules.{rules}
 use Rattle.table.proofs.head.Goals as goal
 
 pub bounds-own-0 : goal.bounds-own-0

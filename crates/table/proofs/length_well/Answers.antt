@@ -1,7 +1,6 @@
 -- `table::length_well` meets its contract, by the tests that led to each return.
 use native.Mathlib.Omega.{arith}
 use Rattle.table.proofs.Answers.{length_none, length-long, length-inside}
-use borrow.Author.Rules.{rules}
 use Rattle.table.proofs.length_well.Goals as goal
 
 pub returns-then-n-lt1 : goal.returns-then-n-lt1

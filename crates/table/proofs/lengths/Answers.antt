@@ -1,13 +1,13 @@
 -- `table::lengths` meets its contract. The invariant: the blocks from b on come to what all come to, and starts is filled up to b.
 use mathlib.Core.Path.{◌≡◌, refl, ap, sym, ◌∙◌}
-use Prim.Native.Nat.{◌+◌, ◌≤◌, ◌-◌}
+use Prim.Native.Nat.{◌+◌}
 use native.Mathlib.Omega.{arith}
-use lib.ListN.{length, length-set}
+use lib.ListN.{length-set}
 use Rattle.model.specs.declared.Verdict.{Verdict}
-use Rattle.model.specs.Table.{rows, start_of, blocks_ask, lengths_ask}
+use Rattle.model.specs.Table.{start_of}
 use Rattle.table.proofs.Laws.{length-facts, start_none, start-more}
 use Rattle.table.proofs.Questions.{test-false, test-true}
-use Rattle.table.proofs.Answers.{lengths-start, lengths-on, lengths-stop, lengths_short, lengths-pass, Filled, filled_none, filled_more}
+use Rattle.table.proofs.Answers.{lengths-start, lengths-on, lengths-stop, lengths_short, lengths-pass, filled_none, filled_more}
 use Rattle.table.proofs.lengths.Goals as goal
 
 pub loop-b-init : goal.loop-b-init

@@ -1,13 +1,9 @@
 -- `table::lengths` meets its contract. The invariant: the blocks from b on come to what all come to, and starts is filled up to b.
-use mathlib.Core.Path.{◌≡◌, refl, ap, sym, ◌∙◌}
-use Prim.Native.Nat.{◌+◌, ◌≤◌, ◌-◌}
-use native.Mathlib.Omega.{arith}
-use lib.ListN.{length, length-set}
-use Rattle.model.specs.declared.Verdict.{Verdict}
+use mathlib.Core.Path.{◌≡◌}
+use Prim.Native.Nat.{◌≤◌, ◌-◌}
+use lib.ListN.{length}
 use Rattle.model.specs.Table.{rows, start_of, blocks_ask, lengths_ask}
-use Rattle.table.proofs.Laws.{length-facts, start_none, start-more}
-use Rattle.table.proofs.Questions.{test-false, test-true}
-use Rattle.table.proofs.Answers.{lengths-start, lengths-on, lengths-stop, lengths_short, lengths-pass, Filled, filled_none, filled_more}
+use Rattle.table.proofs.Answers.{Filled}
 use Rattle.table.proofs.lengths.Given as goal
 
 abbrev pub invariant-loop-b : goal.invariant-loop-b

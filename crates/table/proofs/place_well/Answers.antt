@@ -1,7 +1,6 @@
 -- `table::place_well` meets its contract: past the places in use, where marks are allowed, at a mark, and without one.
 use mathlib.Core.Path.{sym, ◌∙◌}
 use Rattle.table.proofs.Answers.{place-past, place-allowed, place-marked, place-unmarked}
-use borrow.Author.Rules.{rules}
 use Rattle.table.proofs.place_well.Goals as goal
 
 pub returns-then-n-f : goal.returns-then-n-f

@@ -1,7 +1,6 @@
 -- `table::record_well` meets its contract, where the kind uses a record type and where not.
 use mathlib.Core.Path.{sym, ◌∙◌}
 use Rattle.model.proofs.Logic.{pick_true, pick-false}
-use borrow.Author.Rules.{rules}
 use Rattle.table.proofs.record_well.Goals as goal
 
 pub returns-then-uses_record : goal.returns-then-uses_record

@@ -1,7 +1,6 @@
 -- `table::row` meets its contract: the part from k * 9 on that is nine words long.
 use native.Mathlib.Nat.{add-sub_cancel_left}
 use Rattle.model.specs.Table.{row_of}
-use borrow.Author.Rules.{rules}
 use Rattle.table.proofs.row.Goals as goal
 
 pub returns : goal.returns

@@ -2,7 +2,6 @@
 use mathlib.Core.Path.{◌∙◌}
 use Rattle.table.proofs.Questions.{test-false, test-true}
 use Rattle.table.proofs.Answers.{span-record, span-first, span_second}
-use borrow.Author.Rules.{rules}
 use Rattle.table.proofs.span_well.Goals as goal
 
 pub returns-then-count-record_type : goal.returns-then-count-record_type

@@ -1,11 +1,7 @@
 -- `table::tag_types` meets its contract. The invariant: the tags from k on come to what all come to.
 use mathlib.Core.Path.{refl, ◌∙◌}
-use Prim.Native.Nat.{◌-◌}
 use native.Mathlib.Omega.{arith}
-use lib.ListN.{length}
-use Rattle.model.specs.Question.{first_no}
-use Rattle.model.specs.Table.{tables_of, tag_ask}
-use Rattle.table.proofs.Questions.{RowsLeft, rows-begin, row-yes, row-no, rows_end}
+use Rattle.table.proofs.Questions.{rows-begin, row-yes, row-no, rows_end}
 use Rattle.table.proofs.Answers.{tag-yes, tag-no}
 use Rattle.table.proofs.tag_types.Goals as goal
 

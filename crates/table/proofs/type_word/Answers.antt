@@ -5,7 +5,6 @@ use Prim.Native.Nat.{ℕ, ◌+◌}
 use native.Mathlib.Omega.{arith}
 use lib.ListN.{length, get_or}
 use Rattle.table.proofs.Laws.{row-length, word-in-row}
-use borrow.Author.Rules.{rules}
 use Rattle.table.proofs.type_word.Goals as goal
 
 pub bounds-own-j : goal.bounds-own-j

@@ -1,7 +1,6 @@
 -- `table::type_words` meets its contract: the row past its number.
 use Rattle.table.proofs.Laws.{row_words, part-is}
 use native.Mathlib.Omega.{arith}
-use borrow.Author.Rules.{rules}
 use Rattle.table.proofs.type_words.Goals as goal
 
 pub slice_bounds-result-count : goal.slice_bounds-result-count

@@ -2,7 +2,6 @@
 use native.Mathlib.Omega.{arith}
 use Rattle.table.proofs.Questions.{test-false, test-true}
 use Rattle.table.proofs.Answers.{well-any, well-kind, well-record, well-first, well-unused}
-use borrow.Author.Rules.{rules}
 use Rattle.table.proofs.well_made.Goals as goal
 
 pub returns-then-w-eq0 : goal.returns-then-w-eq0

@@ -1,6 +1,5 @@
 -- `table::whole_rows` meets its contract, by the test that led to each return.
 use Rattle.table.proofs.Answers.{rows-broken, rows_none, rows-bounded}
-use borrow.Author.Rules.{rules}
 use Rattle.table.proofs.whole_rows.Goals as goal
 
 pub returns-then-n-ne0 : goal.returns-then-n-ne0

@@ -1,9 +1,6 @@
 -- `table::words_well` meets its contract. The invariant: the words from place f on come to what all come to.
-use mathlib.Core.Path.{◌≡◌, refl, ◌∙◌}
-use Prim.Native.Nat.{◌≤◌, ◌-◌}
+use mathlib.Core.Path.{refl, ◌∙◌}
 use native.Mathlib.Omega.{arith}
-use Rattle.model.specs.Question.{every}
-use Rattle.table.specs.Row.{row_well}
 use Rattle.table.proofs.Questions.{test-false, test-true, every-on, every-stops, every-end}
 use Rattle.table.proofs.Answers.{place_is}
 use Rattle.table.proofs.words_well.Goals as goal

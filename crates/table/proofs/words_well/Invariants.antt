@@ -1,11 +1,8 @@
 -- `table::words_well` meets its contract. The invariant: the words from place f on come to what all come to.
-use mathlib.Core.Path.{◌≡◌, refl, ◌∙◌}
+use mathlib.Core.Path.{◌≡◌}
 use Prim.Native.Nat.{◌≤◌, ◌-◌}
-use native.Mathlib.Omega.{arith}
 use Rattle.model.specs.Question.{every}
 use Rattle.table.specs.Row.{row_well}
-use Rattle.table.proofs.Questions.{test-false, test-true, every-on, every-stops, every-end}
-use Rattle.table.proofs.Answers.{place_is}
 use Rattle.table.proofs.words_well.Given as goal
 
 abbrev pub invariant-loop-f : goal.invariant-loop-f

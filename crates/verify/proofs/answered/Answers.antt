@@ -2,7 +2,6 @@
 use mathlib.Core.Path.{ap, ◌∙◌}
 use Rattle.model.specs.declared.Verdict.{Verdict}
 use Rattle.model.specs.Cost.{counting}
-use borrow.Author.Rules.{rules}
 use Rattle.verify.proofs.Blocks.{verdict-none, verdict-no}
 use Rattle.verify.proofs.answered.Goals as goal
 

@@ -1,7 +1,6 @@
 -- `parts::between` meets its contract.
 use native.Mathlib.Omega.{arith}
 use Rattle.calls.proofs.Cut.{slice_empty, slice-beyond, slice-tail}
-use borrow.Author.Rules.{rules}
 use Rattle.calls.proofs.parts.between.Goals as goal
 
 pub returns-then-to-from : goal.returns-then-to-from

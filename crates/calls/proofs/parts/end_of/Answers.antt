@@ -3,7 +3,6 @@ use mathlib.Core.Path.{sym}
 use native.Mathlib.Omega.{arith}
 use lib.Seq.{get_or-take}
 use Rattle.calls.proofs.Cut.{past-taken, past_all}
-use borrow.Author.Rules.{rules}
 use Rattle.calls.proofs.parts.end_of.Goals as goal
 
 pub returns-then-marked-i : goal.returns-then-marked-i

@@ -2,7 +2,6 @@
 use mathlib.Core.Path.{sym}
 use native.Mathlib.Omega.{arith}
 use lib.Seq.{get_or-take}
-use borrow.Author.Rules.{rules}
 use Rattle.calls.proofs.parts.long.Goals as goal
 
 pub returns : goal.returns

@@ -1,7 +1,6 @@
 -- `parts::part` meets its contract.
 use lib.ListN.{take}
 use Rattle.calls.proofs.Cut.{part-between}
-use borrow.Author.Rules.{rules}
 use Rattle.calls.proofs.parts.part.Goals as goal
 
 pub returns : goal.returns

@@ -2,7 +2,6 @@
 use mathlib.Core.Path.{◌∙◌}
 use lib.ListN.{take}
 use Rattle.calls.proofs.Cut.{one-before}
-use borrow.Author.Rules.{rules}
 use Rattle.calls.proofs.parts.start_of.Goals as goal
 
 pub returns : goal.returns

@@ -2,7 +2,6 @@
 use mathlib.Core.Path.{sym}
 use native.Mathlib.Omega.{arith}
 use Rattle.model.proofs.Lists.{get_or-past}
-use borrow.Author.Rules.{rules}
 use Rattle.calls.proofs.parts.word.Goals as goal
 
 pub returns-then-row-i : goal.returns-then-row-i

@@ -1,6 +1,5 @@
 -- `lines::finish` meets its contract.
 use Rattle.service.proofs.Along.{finished-before, finished-line}
-use Rattle.std.proofs.Common.{rules}
 use Rattle.service.proofs.lines.finish.Goals as goal
 
 pub returns-then-l-eq0 : goal.returns-then-l-eq0

@@ -1,5 +1,5 @@
 -- `lines::held` meets its contract.
-use Rattle.std.proofs.Common.{sym, arith, length-take-le, take_all, rules}
+use Rattle.std.proofs.Common.{sym, arith, length-take-le, take_all}
 use Rattle.service.proofs.lines.held.Goals as goal
 
 pub returns-then-out-n : goal.returns-then-out-n

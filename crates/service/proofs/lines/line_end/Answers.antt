@@ -1,6 +1,5 @@
 -- `lines::line_end` meets its contract.
-use Rattle.std.proofs.Common.{◌≡◌, ◌+◌, ◌-◌, ◌≤◌, length, drop, refl, arith, rules}
-use Rattle.service.specs.Served.{to_end}
+use Rattle.std.proofs.Common.{refl, arith}
 use Rattle.service.proofs.Along.{end-here, end_later, end_none}
 use Rattle.service.proofs.lines.line_end.Goals as goal
 

@@ -1,7 +1,6 @@
 -- `lines::line_end` meets its contract.
-use Rattle.std.proofs.Common.{◌≡◌, ◌+◌, ◌-◌, ◌≤◌, length, drop, refl, arith, rules}
+use Rattle.std.proofs.Common.{◌≡◌, ◌+◌, ◌-◌, ◌≤◌, length, drop}
 use Rattle.service.specs.Served.{to_end}
-use Rattle.service.proofs.Along.{end-here, end_later, end_none}
 use Rattle.service.proofs.lines.line_end.Given as goal
 
 abbrev pub invariant-loop-i : goal.invariant-loop-i

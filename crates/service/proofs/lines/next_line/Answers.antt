@@ -1,6 +1,5 @@
 -- `lines::next_line` meets its contract.
 use Rattle.service.proofs.Along.{next_place}
-use Rattle.std.proofs.Common.{rules}
 use Rattle.service.proofs.lines.next_line.Goals as goal
 
 pub returns : goal.returns

@@ -1,5 +1,5 @@
 -- `lines::start` meets its contract.
-use Rattle.std.proofs.Common.{ap, arith, rules}
+use Rattle.std.proofs.Common.{ap, arith}
 use Rattle.service.specs.Filling.{placed}
 use Rattle.service.proofs.lines.start.Goals as goal
 
