@@ -153,16 +153,7 @@ fn answered(
     let mut at = 0;
     while at < bytes.len() {
         let next = past_line(bytes, at);
-        p = with_answer(
-            to,
-            &bytes[at..next],
-            p,
-            words,
-            ends,
-            longs,
-            space,
-            out,
-        )?;
+        p = with_answer(to, &bytes[at..next], p, words, ends, longs, space, out)?;
         at = next;
     }
     Ok(())
