@@ -286,6 +286,7 @@ pub fn known_equal(
 }
 
 // The same as known_equal, for the bounds of runs: it asks own constants before joined, since most bounds that are not one value have them.
+#[inline(always)]
 pub fn known_bound(
     words: &[u32; 256],
     frames: &[u8; 32],

@@ -195,10 +195,12 @@ fn reached(memory: &mut [u32], e: Effect) -> Handed
     }
 }
 
-// The number of the question that had a no, 0 where the instruction was carried out, and the registers after it.
+// The number of the question that had a no, 0 where the instruction was carried out, the registers after it, and the word in the one that can
+// differ.
 #[derive(Clone, Copy)]
 pub struct Stepped {
     pub number: u32,
+    pub word: u32,
     pub registers: [u32; 8],
 }
 
@@ -209,17 +211,19 @@ pub fn carry_out(registers: [u32; 8], memory: &mut [u32], e: Effect) -> Stepped
         → step_of result.number (at b j result.registers memory.new f n) (past (at b j result.registers memory.new f n))
         ≡ does e (at b j registers memory.old f n) }
     ensures others { set registers e.a (reg result.registers e.a) ≡ result.registers }
+    ensures word { result.word ≡ reg result.registers e.a }
 {
     let d = reached(memory, e);
     let next = with(registers, e.a, d.v);
     Stepped {
         number: d.number,
+        word: d.v,
         registers: next,
     }
 }
 
-// One instruction, over lent registers: of the array that it hands back, the register that can differ is taken over. A loop around
-// these lines would copy all eight for each instruction, so they are a function of their own.
+// One instruction, over lent registers: of the array that it hands back, the word of the one register that can differ is taken over, so that
+// the other seven are not copied.
 pub fn advance(
     rows: &[[u32; 2]; instruction::OPCODES],
     registers: &mut [u32; 8],
@@ -233,9 +237,7 @@ pub fn advance(
 {
     let e = effect_of(rows, registers, w);
     let s = carry_out(*registers, memory, e);
-    let a = e.a;
-    let next = s.registers;
-    registers[a] = next[a];
+    registers[e.a] = s.word;
     s.number
 }
 

@@ -5,6 +5,6 @@ use Rattle.step.proofs.advance.Goals as goal
 
 pub returns : goal.returns
 returns c =
-    let carried = c.before.before.before.carry_out-s in
-    let effect = c.before.before.before.before.before.before.effect_of-e in
-    λ P b j f n d. taken-over b j f n _ _ _ _ _ carried.ensures.others (carried.ensures.does b j f n ∙ effect.ensures.does P b j f n _ d)
+    let carried = c.carry_out-s in
+    λ P b j f n d. taken-over b j f n _ _ _ _ _ (rw carried.ensures.word carried.ensures.others)
+    (carried.ensures.does b j f n ∙ c.effect_of-e.ensures.does P b j f n _ d)
