@@ -217,7 +217,7 @@ pub fn carry_out(registers: [u32; 8], memory: &mut [u32], e: Effect) -> Stepped
     let next = with(registers, e.a, d.v);
     Stepped {
         number: d.number,
-        word: d.v,
+        word: next[e.a],
         registers: next,
     }
 }
