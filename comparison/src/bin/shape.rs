@@ -1,9 +1,10 @@
 //! Looks at the machine code of the built archive for what its speed rests on and no proof sees: `shape ARCHIVE`. It measures nothing, so
 //! load does not matter to it. Where there is no objdump it says so and passes.
 //!
-//! - What is known of a value is asked inside the function that wants it; what is rare is a function of its own, `known::joined` for two
-//!   values that are not one and `known::far_stand` for a value that a chain starts at.
-//! - The check's loops have a function to themselves, `verify::judge`: as a part of `ramdulsi_check` they would be compiled as seldom run.
+//! - What is known of a value is asked inside the function that wants it; what is rare is a function of its own,
+//!   `known::Values::joined` for two values that are not one and `known::Values::far_stand` for a value that a chain starts at.
+//! - The check's loop over a block's instructions has a function to itself, `verify::block`: as a part of `ramdulsi_check` it would be compiled
+//!   as seldom run.
 //! - A run copies neither its registers nor a table from instruction to instruction or from block to block: no vector register is used
 //!   where control can come from opcode 6's division and go back to it. Nor does it hand two numbers on as the halves of one register:
 //!   no shift by 32 is there. Copies before the loop and after it are free.
@@ -142,8 +143,8 @@ fn running(run: &[Instruction]) -> Vec<&Instruction> {
 /// What is wrong with what is asked of known values, and what is right.
 fn split(all: &[Instruction]) -> Result<String, String> {
     let has = |name: &&str| all.iter().any(|i| i.function == *name);
-    let rare = ["known::joined", "known::far_stand"];
-    let inside = ["known::known_equal", "known::known_bound", "known::known_tag", "known::known_zero", "known::stand"];
+    let rare = ["known::Values::joined", "known::Values::far_stand"];
+    let inside = ["known::Values::known_equal", "known::Values::known_bound", "known::Values::known_tag", "known::Values::known_zero", "known::Values::stand"];
     if let Some(name) = rare.iter().find(|name| !has(name)) {
         return Err(format!("no function {name}; expected one of its own: what is rare must not be compiled into each question"));
     }
@@ -156,12 +157,12 @@ fn split(all: &[Instruction]) -> Result<String, String> {
     Ok(format!("{} are functions of their own, {} are none", rare.join(" and "), inside.join(", ")))
 }
 
-/// What is wrong with the check's loops, and what is right.
+/// What is wrong with the check's loop over a block, and what is right.
 fn apart(all: &[Instruction]) -> Result<String, String> {
-    if all.iter().any(|i| i.function == "verify::judge") {
-        return Ok("verify::judge is a function of its own".to_string());
+    if all.iter().any(|i| i.function == "verify::block") {
+        return Ok("verify::block is a function of its own".to_string());
     }
-    Err("no function verify::judge; expected one of its own, seldom called: verify::check asks the questions of the tables itself"
+    Err("no function verify::block; expected one of its own, seldom called: verify::check asks the questions of the tables itself"
         .to_string())
 }
 
@@ -185,12 +186,12 @@ fn narrow(all: &[Instruction]) -> Result<String, String> {
     }
     wrong(
         "copy registers or a table",
-        "step::advance has no loop, every way out of it hands back the registers with one word set, and the block takes over that word",
+        "step::carry_out hands back the one word that can differ beside the registers, and step::advance takes over that word alone",
         body.iter().filter(|i| i.copies()).collect(),
     )?;
     wrong(
         "pack two numbers into one register or unpack them",
-        "each way out of step::reached makes its own record",
+        "each way out of step::reached makes its own answer",
         body.iter().filter(|i| i.packs()).collect(),
     )?;
     Ok(format!("the run's loop of {} machine instructions copies and packs nothing", body.len()))

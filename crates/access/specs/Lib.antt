@@ -1,2 +1,3 @@
 -- Definitions of the crate.
+pub mod Sizes
 pub mod State

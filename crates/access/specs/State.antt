@@ -1,14 +1,17 @@
--- The state of a reading as the arrays of the code hold it, and outcomes as numbers.
-use Rattle.std.specs.Prelude.{List, map, ◌≡◌, ℕ, zero, suc, ◌+◌, ◌%◌, ◌≤◌, Bool, true, ltb, length}
-use Rattle.model.specs.Question.{pick, Question, question_of, is_answer, q11, q12, q23, Refusal, Outcome, ok, refused, provided, ask}
-use Rattle.model.specs.Table.{Tables, head_of}
+-- The state of a reading as the struct of the code holds it, and where the questions asked of it have their no.
+use Rattle.std.specs.Prelude.{List, map, ◌≡◌, ℕ, ◌+◌, ◌%◌, Bool, Result, ltb}
+use Rattle.model.specs.Question.{pick, Outcome, ok, refused, provided, ask}
+use Rattle.model.specs.declared.questions.Question.{Question}
+use Rattle.model.specs.declared.questions.Question.TheVariants.{Offset as q11, OtherRecord as q12, LockedField as q23}
+use Rattle.model.specs.declared.questions.Refusal.{Refusal}
+use Rattle.model.specs.Table.{Tables, tables_of}
 use Rattle.model.specs.Machine.{Access, to_load, to_store}
 use Rattle.model.specs.Reading.{Reading, look, loaded, stored}
 use Rattle.model.specs.Check.{value_in, may_touch, permits}
-use Rattle.std.specs.Borrow.{MutBor}
-use denote.Triple.Both.{Both}
 use Rattle.known.specs.Numbers.{values_of}
-use Rattle.access.specs.declared.Progress.{Progress}
+pub use Rattle.access.specs.Sizes.{Sizes}
+use Rattle.access.specs.declared.Reading.{Reading as Held}
+use Rattle.access.specs.declared.tables.Tables.{Tables as Lookup}
 
 -- A view is the birthplace of the fields seen. There are 32 birthplaces.
 abbrev pub view_of : ℕ → ℕ
@@ -17,53 +20,33 @@ view_of x = x % 32
 unfoldable pub views_of : List ℕ → List ℕ
 views_of l = map view_of l
 
-abbrev pub reading : List ℕ → List ℕ → List ℕ → List ℕ → List ℕ → List ℕ → ℕ → ℕ → Reading
-reading registers words frames constants views fields since base =
+abbrev pub reading : Held → Reading
+reading held =
     record {
-      values = values_of words frames constants 0 0;
-      registers = registers;
-      views = views_of views;
-      since = since;
-      base = base;
-      fields = fields;
+      values = values_of held.values 0 0;
+      registers = held.registers;
+      views = views_of held.views;
+      since = held.since;
+      base = held.base;
+      fields = held.fields;
     }
 
--- an array that a function is lent to write to, at its entry and at its exit
-abbrev pub LentMut : Type 0
-LentMut = Both (MutBor (List ℕ)) (MutBor (List ℕ))
-
--- the reading that the lent arrays make at entry, and at exit
-abbrev pub before : LentMut → LentMut → LentMut → LentMut → LentMut → LentMut → ℕ → ℕ → Reading
-before registers words frames constants views fields since base =
-    reading registers.entry.now words.entry.now frames.entry.now constants.entry.now views.entry.now fields.entry.now
-    since base
-
-abbrev pub after : LentMut → LentMut → LentMut → LentMut → LentMut → LentMut → ℕ → ℕ → Reading
-after registers words frames constants views fields since base =
-    reading registers.exit.now words.exit.now frames.exit.now constants.exit.now views.exit.now fields.exit.now
-    since base
-
--- a type table of whole rows, whose sizes are at most 8
-pub record Sizes (types : List ℕ) : Type 0 where
-  pub whole : length types % 9 ≡ 0
-  pub small : (t : ℕ) → head_of types t ≤ 8
+-- the tables that a reading is lent
+abbrev pub tables_by : Lookup → Tables
+tables_by tables = tables_of tables.types.now tables.tags.now
 
 -- ---- outcomes
 
--- number 0 goes on with a result; any other is the question that had a no
-unfoldable pub numbered : {A : Type 0} → (Question → Refusal) → ℕ → A → Outcome A
-numbered place zero a = ok a
-numbered place (suc n) a = refused (place (question_of (suc n)))
+-- questions without a no go on with a result; else the first that has one is refused at its place
+unfoldable pub placing : {A : Type 0} → (Question → Refusal) → Result (Unit {0}) Question → A → Outcome A
+placing place (ok u) a = ok a
+placing place (refused q) a = refused (place q)
 
--- Questions asked of the reading that the lent arrays make at entry, and how far it was: the number of the first no, or the reading
--- that the arrays make at exit; and the fit questions among them, on top of those before.
-pub record Reads (registers words frames constants views fields : LentMut) (s r : Progress)
-    (asks : (Question → Refusal) → Reading → Outcome Reading) (puts : Reading → ℕ) : Type 0 where
-  pub outcome : (place : Question → Refusal)
-      → numbered place r.number (after registers words frames constants views fields r.since r.base)
-      ≡ asks place (before registers words frames constants views fields s.since s.base)
-  pub answers : is_answer r.number ≡ true
-  pub count : r.asked ≡ s.asked + puts (before registers words frames constants views fields s.since s.base)
+-- Questions asked of the reading that a struct holds at entry: the first no, or the reading that it holds at exit; and the fit questions
+-- among them, on top of those before.
+pub record Reads (entry exit : Held) (answer : Result (Unit {0}) Question) (asks : (Question → Refusal) → Reading → Outcome Reading) (puts : Reading → ℕ) : Type 0 where
+  pub outcome : (place : Question → Refusal) → placing place answer (reading exit) ≡ asks place (reading entry)
+  pub count : exit.asked ≡ entry.asked + puts (reading entry)
 
 -- Q12 of a load through the value v, whose record's fields are at hand, and the reading after it
 unfoldable pub load_ask : Tables → (Question → Refusal) → ℕ → ℕ → ℕ → Reading → Outcome Reading

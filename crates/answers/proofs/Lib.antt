@@ -1,3 +1,2 @@
--- Laws of the crate: the answers to requests; lines of output.
-pub mod Gave
+-- Laws of the crate: lines of output.
 pub mod Replies

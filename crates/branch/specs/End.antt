@@ -1,30 +1,45 @@
--- The end of a block as the code asks it: the first no of Q7 to Q9 and Q13 as a number, what an edge tells, the rows that edges meet.
-use Rattle.std.specs.Prelude.{◌≡◌, List, ℕ, suc, ◌+◌, true, not, ltb, eqb, get_or, set}
-use Rattle.model.specs.Question.{◌and◌, pick, provided, Question, number_of, q13, q14, q15, Refusal, Outcome, ask, asked}
+-- The end of a block as the code asks it: the first no of Q7 to Q9 and Q13, what an edge tells, the rows that edges meet.
+use Rattle.std.specs.Prelude.{◌≡◌, List, Result, Option, Some, None, ℕ, suc, ◌+◌, true, not, ltb, eqb, get_or, set}
+use Rattle.model.specs.Question.{◌and◌, pick, provided, Outcome, ok, refused, ask, asked}
+use Rattle.model.specs.declared.questions.Question.{Question}
+use Rattle.model.specs.declared.questions.Question.TheVariants.{OpenRecord as q13, TakenEdge as q14, UntakenEdge as q15}
+use Rattle.model.specs.declared.questions.Refusal.{Refusal}
 use Rattle.model.specs.Word.{kind_of, with_kind}
 use Rattle.model.specs.Table.{Tables, Routine}
 use Rattle.model.specs.Machine.{End, Instruction, form_ask}
 use Rattle.model.specs.Values.{Values, birthplace, typed, known_equal}
 use Rattle.model.specs.Reading.{row_fits, Reading, not_zero, no_base, taken, untaken}
 use Rattle.instruction.specs.Form.{target_of, forks}
-use Rattle.known.specs.Numbers.{values_of, Lent, dep_at, sibling_of}
-use Rattle.access.specs.State.{LentMut, reading}
+use Rattle.known.specs.declared.Values.{Values as Held}
+use Rattle.known.specs.Numbers.{values_of, dep_at, sibling_of}
+use Rattle.access.specs.declared.Reading.{Reading as State}
 use Rattle.branch.specs.declared.EdgeFacts.{EdgeFacts}
 
--- the reading that the lent arrays make at entry
-abbrev pub reading_in : Lent → LentMut → Lent → Lent → List ℕ → List ℕ → ℕ → ℕ → Reading
-reading_in registers words frames constants views fields since base =
-    reading registers.entry.now words.entry.now frames.entry.now constants.entry.now views fields since base
-
--- the number of the first no of Q7 to Q9 and Q13 at the last instruction of block b of count blocks; 0 where there is none
-unfoldable pub end_no : Instruction → ℕ → ℕ → ℕ → ℕ
-end_no x b count base = form_ask number_of count b true (λ _. 0) (λ _. provided (not (ltb base no_base)) (number_of q13) λ _. 0) x
+-- the first no of Q7 to Q9 and Q13 at the last instruction of block b of count blocks, if there is one
+unfoldable pub end_no : Instruction → ℕ → ℕ → ℕ → Result (Unit {0}) Question
+end_no x b count base = form_ask refused count b true (λ _. ok tt) (λ _. provided (not (ltb base no_base)) (refused q13) λ _. ok tt) x
 
 -- ---- what an edge tells
 
 -- the values with the type word r for v
-abbrev pub retyped : List ℕ → List ℕ → List ℕ → ℕ → ℕ → Values
-retyped words frames constants v r = values_of (set words v r) frames constants 0 0
+abbrev pub with_word : Held → ℕ → ℕ → Held
+with_word held v r = record { words = set held.words v r; frames = held.frames; constants = held.constants }
+
+-- the state of a reading with these type words
+abbrev pub but_words : State → List ℕ → State
+but_words state words =
+    record {
+      registers = state.registers;
+      values = record { words = words; frames = state.values.frames; constants = state.values.constants };
+      views = state.views;
+      since = state.since;
+      base = state.base;
+      fields = state.fields;
+      asked = state.asked;
+    }
+
+abbrev pub retyped : Held → ℕ → ℕ → Values
+retyped held v r = values_of (with_word held v r) 0 0
 
 -- past an untaken opcode 11 with the constant k
 abbrev pub past_zero : Values → ℕ → ℕ → Values
@@ -36,16 +51,25 @@ next_kind vs v u kind x =
     let w = get_or vs.words v 0 in
     pick (eqb (kind_of w) kind and known_equal vs (dep_at u) (sibling_of (get_or vs.frames (birthplace v) 0) x)) (with_kind (kind + 1) w) w
 
--- the values on either edge of a branch, made of the arrays and of what the edges tell of the value tested
-abbrev pub taken_in : EdgeFacts → List ℕ → List ℕ → List ℕ → Values
-taken_in t words frames constants = values_of (set words t.v t.taken) frames constants t.tested t.equal
+-- the constant that v is tested against, as the values of a reading hold it: as the constant + 1, and 0 where there is none
+abbrev pub equal_by : Option ℕ → ℕ
+equal_by None = 0
+equal_by (Some k) = k + 1
 
-abbrev pub untaken_in : EdgeFacts → List ℕ → List ℕ → List ℕ → Values
-untaken_in t words frames constants = retyped words frames constants t.v t.untaken
+abbrev pub tested_by : Option ℕ → ℕ → ℕ
+tested_by None v = 0
+tested_by (Some k) v = v
 
-pub record Tells (t : EdgeFacts) (words frames constants : List ℕ) (e : End) (st : Reading) : Type 0 where
-  pub on_taken : taken_in t words frames constants ≡ taken e st
-  pub on_untaken : untaken_in t words frames constants ≡ untaken e st
+-- the values on either edge of a branch, made of those held and of what the edges tell of the value tested
+abbrev pub taken_in : EdgeFacts → Held → Values
+taken_in t held = values_of (with_word held t.v t.taken) (tested_by t.constant t.v) (equal_by t.constant)
+
+abbrev pub untaken_in : EdgeFacts → Held → Values
+untaken_in t held = retyped held t.v t.untaken
+
+pub record Tells (t : EdgeFacts) (held : Held) (e : End) (st : Reading) : Type 0 where
+  pub on_taken : taken_in t held ≡ taken e st
+  pub on_untaken : untaken_in t held ≡ untaken e st
 
 -- ---- edges
 

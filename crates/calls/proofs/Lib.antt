@@ -1,3 +1,2 @@
--- Laws of the crate: parts cut from the pool; the calls at these.
+-- Laws of the crate: parts cut from the pool.
 pub mod Cut
-pub mod Called

@@ -49,7 +49,6 @@ module _ (parts : List (List ℕ)) where
   abbrev pub run_of : (budget : ℕ) → Run
   run_of budget = run (code_of (part 0) (part 1)) (part 2) (ready_of (part 3)) budget
 
--- a run's answer, and the memory that it left
-abbrev pub Ran : (blocks code memory row : List ℕ) → (budget : ℕ) → RunAnswer → (left : List ℕ) → Type 0
-Ran blocks code memory row budget a left =
-    let r = run (code_of blocks code) memory (ready_of row) budget in (a ≡ returned r) × (left ≡ r.memory)
+  -- a run's answer, and the memory that it left
+  abbrev pub Ran : (budget : ℕ) → RunAnswer → (left : List ℕ) → Type 0
+  Ran budget a left = let r = run_of budget in (a ≡ returned r) × (left ≡ r.memory)

@@ -8,14 +8,11 @@ use model::limit;
 pub fn blanks(blocks: &[u32]) -> usize
     ensures { result ≡ length (blanks_of blocks.now) }
 {
-    let rows = blocks.len() / limit::ROW_WORDS;
     let mut found = 0;
-    let mut b = 0;
-    while b < rows {
+    for b in 0..blocks.len() / limit::ROW_WORDS {
         if blank::is_blank(table::type_words(blocks, b)) {
             found += 1;
         }
-        b += 1;
     }
     found
 }

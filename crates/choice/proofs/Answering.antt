@@ -2,15 +2,17 @@
 use mathlib.Core.Path.{◌≡◌, refl, sym, ap, ◌∙◌}
 use mathlib.Core.Bool.{true}
 use mathlib.Core.List.{List, [], ◌∷◌}
-use Prim.Native.Nat.{ℕ, ◌<◌, ◌≤◌}
+use Prim.Native.Nat.{ℕ, ◌/◌, ◌<◌, ◌≤◌}
 use native.Mathlib.Omega.{arith}
-use lib.ListN.{length}
+use lib.ListN.{length, get_or}
 use borrow.Author.Tests.{eq-eqb, eqb-true, leb-true}
 use Rattle.model.specs.declared.Verdict.{Verdict}
 use Rattle.model.specs.declared.CheckAnswer.{CheckAnswer}
 use Rattle.model.specs.declared.OfferedAnswer.{OfferedAnswer}
-use Rattle.model.specs.Question.{q33, refusal, refusing, Outcome, ok, refused, in_order, verdict_of}
-use Rattle.model.specs.Table.{Tables, tables_of, Code, Routine, routine_of, rows, tables_ask}
+use Rattle.model.specs.declared.questions.Refusal.{Refusal}
+use Rattle.model.specs.Question.{refusal, refusing, Outcome, ok, refused, then, in_order, verdict_of}
+use Rattle.model.specs.declared.questions.Question.TheVariants.{NoChoice as q33}
+use Rattle.model.specs.Table.{tables_of, Code, Routine, routine_of, rows, tables_ask}
 use Rattle.model.specs.Check.{judge, check_ask, check}
 use Rattle.model.specs.Cost.{counting}
 use Rattle.model.specs.Blank.{blanks_of, offers, Choice, more, search, found, nowhere, Found, open_questions, choosing, filled_with, accepts}
@@ -20,25 +22,25 @@ use Rattle.model.proofs.Choice.{Least, least-found, none-nowhere}
 use Rattle.model.proofs.InForce.{rows-in-force}
 use Rattle.model.proofs.FilledTables.{rows-filled, head-filled, start-filled, filled-tables, no-blanks}
 use Rattle.table.proofs.Laws.{routine-count, routine-long, routine-start, routine-annotation, routine-part}
-use Rattle.table.proofs.Questions.{no-refusal, then-on, ComesTo, after-yes, at-no}
-use Rattle.blank.specs.declared.Three.{Three}
+use Rattle.model.proofs.Tests.{row-refused, row-ok}
 use Rattle.blank.specs.declared.Blanks.{Blanks}
-use Rattle.blank.specs.Force.{list, Lists, offer_questions, offer_ask}
+use Rattle.blank.specs.Force.{Lists, offer_questions, offer_ask}
 use Rattle.blank.proofs.Laws.{blanks-below, few-blanks, lengths-well}
-use Rattle.verify.specs.Blocks.{first_questions, first_ask, Tabled, Annotated, Divided, judged}
-use Rattle.verify.proofs.Blocks.{tabled, tables-stop, tables-on, check-stops, check-judges, first_stops, past_first}
-use Rattle.choice.specs.Choices.{places_of, filling_of, mosts_of, is_choice, Routines, Searches, Opened}
+use Rattle.verify.specs.Tabled.{Tabled}
+use Rattle.verify.specs.Blocks.{first_questions, first_ask, Annotated, Divided, judged}
+use Rattle.verify.proofs.Blocks.{tabled, tables-refused, tables-last, check-refused, check-judges, first-refused, first-passed}
+use Rattle.choice.specs.Choices.{places_of, filling_of, mosts_of, is_choice, FirstWith, Offers, Routines, Opened}
 use Rattle.choice.proofs.Lists.{choice_of, number_of, Blank, Shape, no-blank, one-blank, two-blank, three-blank, shape, is-list, three-places}
 use Rattle.choice.proofs.Lists.{number-again, numbered, earlier, force-three, three-listed}
 
 -- ---- the routines that the choices make
 
-module _ (types tags : List ℕ) (C : Code) (offered : List ℕ) (blanks : Three) (most : length C.blocks ≤ 2304) (few : length offered ≤ 64)
+module _ (types tags : List ℕ) (C : Code) (offered : List ℕ) (blanks : List ℕ) (most : length C.blocks ≤ 2304) (few : length offered ≤ 64)
     (O : Opened types tags C offered blanks) where
   abbrev l : List ℕ
   l = blanks_of C.blocks
 
-  abbrev m : Three
+  abbrev m : List ℕ
   m = mosts_of blanks (offers offered)
 
   blank : Blank l blanks
@@ -46,7 +48,7 @@ module _ (types tags : List ℕ) (C : Code) (offered : List ℕ) (blanks : Three
       record {
         lists = O.lists;
         below = λ j h. omega (arith, blanks-below C.blocks j h);
-        few = few-blanks 0 C.blocks offered most 256 O.lists.fourth refl;
+        few = few-blanks 0 C.blocks offered (sym O.lists.fourth);
       }
 
   S : Shape blanks l
@@ -79,7 +81,7 @@ module _ (types tags : List ℕ) (C : Code) (offered : List ℕ) (blanks : Three
         },
       )
 
-  pub routines : (m' : Three) → m' ≡ m → Routines routine C offered blanks m'
+  pub routines : (m' : List ℕ) → m' ≡ m → Routines routine C offered blanks m'
   routines m' e = rw e (record { annotated = λ i h c. (of-choice i c).0; divided = λ i h c. (of-choice i c).1 })
 
   -- a choice's check is the judging of its blocks
@@ -88,8 +90,8 @@ module _ (types tags : List ℕ) (C : Code) (offered : List ℕ) (blanks : Three
 
   check-is : (d : List ℕ) → Choice (offers offered) (length l) d
       → check types tags (filled_with types tags C offered d) ≡ verdict_of (judge (tables_of types tags) (routine_of (filled_with types tags C offered d)))
-  unfolding check check_ask
-  check-is d D = then-on _ _ _ refl (ok-verdict _ (tables-ok d D))
+  unfolding check check_ask then
+  check-is d D = rw (tables-ok d D) refl
 
   accepts-ok : (d : List ℕ) → Choice (offers offered) (length l) d → accepts types tags C offered d ≡ true
       → judge (tables_of types tags) (routine_of (filled_with types tags C offered d)) ≡ ok tt
@@ -105,20 +107,20 @@ module _ (types tags : List ℕ) (C : Code) (offered : List ℕ) (blanks : Three
   answer = offered_check types tags C offered
 
   by-list : {k : List ℕ} → Shape blanks k
-      → by_blanks types tags C offered k ≡ choose types tags C offered blanks.first (in_order (open_questions types tags C offered))
+      → by_blanks types tags C offered k ≡ choose types tags C offered (get_or blanks 0 0) (in_order (open_questions types tags C offered))
   unfolding by_blanks
-  by-list (no-blank x y z) = absurd (omega (arith, O.some))
-  by-list (one-blank x u y z) = rw x
-  by-list (two-blank x u y v z) = rw x
-  by-list (three-blank x u y v z t) = rw x
+  by-list (no-blank e) = absurd (let s = rw e at O.some in omega arith)
+  by-list (one-blank e u) = rw e
+  by-list (two-blank e u v) = rw e
+  by-list (three-blank e u v t) = rw e
 
-  answer-is : (x : Found) → search (accepts types tags C offered) (offers offered) (length l) ≡ x → answer ≡ chosen types tags C offered blanks.first x
+  answer-is : (x : Found) → search (accepts types tags C offered) (offers offered) (length l) ≡ x → answer ≡ chosen types tags C offered (get_or blanks 0 0) x
   unfolding offered_check choose
   answer-is x e = by-list S ∙ rw (passed-all _ O.passed, e)
 
   -- no choice is accepted
   pub none-answer : ((i : ℕ) → i < 512 → is_choice m i ≡ true → judge (tables_of types tags) (routine i) ≡ ok tt → ⊥)
-      → choosing (counting (refusing (refusal q33 blanks.first 0)) 0) [] ≡ answer
+      → choosing (counting (refusing (refusal q33 (get_or blanks 0 0) 0)) 0) [] ≡ answer
   unfolding chosen
   none-answer h =
       sym (answer-is nowhere (none-nowhere _ _ _ (λ d D t.
@@ -126,65 +128,68 @@ module _ (types tags : List ℕ) (C : Code) (offered : List ℕ) (blanks : Three
       h (number_of d) N.within N.choice (rw N.same (accepts-ok d D t)))))
 
   -- nothing is offered
-  pub empty-answer : offers offered ≡ 0 → choosing (counting (refusing (refusal q33 blanks.first 0)) 0) [] ≡ answer
+  pub empty-answer : offers offered ≡ 0 → choosing (counting (refusing (refusal q33 (get_or blanks 0 0) 0)) 0) [] ≡ answer
   unfolding chosen
   empty-answer z = sym (answer-is nowhere (none-nowhere _ _ _ (λ d D t. no-choice S d (rw z at D))))
     where
       no-choice : {k : List ℕ} → Shape blanks k → (d : List ℕ) → Choice 0 (length k) d → ⊥
-      no-choice (no-blank x y z) d D = omega (arith, O.some)
-      no-choice (one-blank x u y z) [] D = elim D [ ]
-      no-choice (two-blank x u y v z) [] D = elim D [ ]
-      no-choice (three-blank x u y v z t) [] D = elim D [ ]
-      no-choice (one-blank x u y z) (j ∷ js) (more h D) = omega arith
-      no-choice (two-blank x u y v z) (j ∷ js) (more h D) = omega arith
-      no-choice (three-blank x u y v z t) (j ∷ js) (more h D) = omega arith
+      no-choice (no-blank e) d D = let s = rw e at O.some in omega arith
+      no-choice (one-blank e u) [] D = elim D [ ]
+      no-choice (two-blank e u v) [] D = elim D [ ]
+      no-choice (three-blank e u v t) [] D = elim D [ ]
+      no-choice (one-blank e u) (j ∷ js) (more h D) = omega arith
+      no-choice (two-blank e u v) (j ∷ js) (more h D) = omega arith
+      no-choice (three-blank e u v t) (j ∷ js) (more h D) = omega arith
 
   -- choice r is the first that is accepted
-  pub choice-answer : (r : ℕ) → r < 512 → Searches (tables_of types tags) routine m r
-      → choosing (judged (tables_of types tags) (routine r)) (list (places_of r)) ≡ answer
+  pub choice-answer : (r : ℕ) → FirstWith m (λ i. judge (tables_of types tags) (routine i) ≡ ok tt) r
+      → choosing (judged (tables_of types tags) (routine r)) (places_of r) ≡ answer
   unfolding chosen
-  choice-answer r h Z =
-      let (c, ok-r) = Z.is h in
+  choice-answer r Z =
+      let c = Z.is in
       let D = places r c in
       let d = choice_of (length l) r in
       let least : Least (accepts types tags C offered) (offers offered) (length l) d =
       record {
         choice = D;
-        passes = ok-accepts d D ok-r;
+        passes = ok-accepts d D Z.has;
         least = λ e E b t.
             let N = numbered blanks (offers offered) (omega arith) S E in
             let u = earlier (offers offered) (omega arith) blank.few E D b in
-            Z.before (number_of e) (let w = number-again blanks (offers offered) r c S h in omega arith) N.choice (rw N.same (accepts-ok e E t));
+            Z.before (number_of e) (let w = number-again blanks (offers offered) r c S Z.within in omega arith) N.choice (rw N.same (accepts-ok e E t));
       } in
       three-places blanks (offers offered) r c S _
-      ∙ ap (λ (a : CheckAnswer). choosing a d) (check-judges types tags (filled_with types tags C offered d) _ refl (ok-verdict _ (tables-ok d D)))
+      ∙ ap (λ (a : CheckAnswer). choosing a d) (check-judges types tags (filled_with types tags C offered d) (tables-ok d D))
       ∙ sym (answer-is (found d) (least-found _ _ _ d least))
 
   -- number 0 is
-  pub first-answers : is_choice m 0 ≡ true → (a : OfferedAnswer) → a ≡ choosing (judged (tables_of types tags) (routine 0)) (list (places_of 0)) → a.number ≡ 0
+  pub first-answers : is_choice m 0 ≡ true → (a : OfferedAnswer) → a ≡ choosing (judged (tables_of types tags) (routine 0)) (places_of 0) → a.number ≡ 0
       → a ≡ answer
   first-answers c a e z =
       e
-      ∙ choice-answer 0 (omega arith) (record {
+      ∙ choice-answer 0 (record {
         within = omega arith;
-        is = λ h. (c, verdict-ok _ (sym (ap (λ (x : OfferedAnswer). x.number) e) ∙ z));
+        is = c;
+        has = verdict-ok _ (sym (ap (λ (x : OfferedAnswer). x.number) e) ∙ z);
         before = λ i h. absurd (omega arith);
       })
 
--- a search over the choices that there are
-pub searched : {𝒯 : Tables} {P : ℕ → Routine} {r : ℕ} (m m' : Three) → m' ≡ m → Searches 𝒯 P m' r → Searches 𝒯 P m r
-searched m m' e Z = rw (← e) Z
-
 -- ---- what the questions before the choice give
 
-module _ (types tags : List ℕ) (C : Code) (offered : List ℕ) (blanks : Three) (O : Opened types tags C offered blanks) where
+module _ (types tags : List ℕ) (C : Code) (offered : List ℕ) (blanks : List ℕ) (O : Opened types tags C offered blanks) where
   pub tables-opened : Tabled types C
   tables-opened =
       let (t, (c, (s, (l, rest)))) = O.passed in
       tabled types tags C (unfold first_ask in passed-all (first_questions types tags C) (t, (c, (s, (l, tt)))))
 
   pub list-opened : length offered ≤ 64
-  list-opened = let (t, (c, (s, (l, (a, (b, (n, rest))))))) = O.passed in (lengths-well (length offered) _ refl (ok-verdict _ n)).1
+  list-opened = let (t, (c, (s, (l, (a, (b, (n, rest))))))) = O.passed in (lengths-well (length offered) n).1
+
+-- and what there is to choose from, where something is offered
+pub offers-opened : {types tags : List ℕ} {C : Code} {offered blanks m : List ℕ} → Opened types tags C offered blanks → m ≡ mosts_of blanks (length offered / 8)
+    → (length offered / 8 ≡ 0 → ⊥) → Offers blanks m offered
+offers-opened {types = types} {tags = tags} {C = C} {offered = offered} {blanks = blanks} O e n =
+    record { three = ap length O.lists.three; mosts = e; some = omega arith; few = list-opened types tags C offered blanks O }
 
 -- ---- the answer before it
 
@@ -192,63 +197,58 @@ module _ (types tags : List ℕ) (C : Code) (offered : List ℕ) where
   abbrev the-answer : OfferedAnswer
   the-answer = offered_check types tags C offered
 
-  choose_no : (b : ℕ) (o : Outcome (Unit {0})) (v : Verdict) → v ≡ verdict_of o → (v.number ≡ 0 → ⊥)
-      → choosing (counting v 0) [] ≡ choose types tags C offered b o
-  unfolding choose verdict_of
-  choose_no b (ok u) v e n = absurd (n (ap (λ (x : Verdict). x.number) e))
-  choose_no b (refused r) v e n = rw e
+  choose_no : (b : ℕ) {o : Outcome (Unit {0})} {r : Refusal} → o ≡ refused r → choosing (counting (refusing r) 0) [] ≡ choose types tags C offered b o
+  unfolding choose
+  choose_no b e = rw e refl
 
   -- a no is the answer, whether a row is blank or not
-  stopped : (v : Verdict) → (v.number ≡ 0 → ⊥) → (blanks_of C.blocks ≡ [] → v ≡ verdict_of (tables_ask types tags C))
-      → v ≡ verdict_of (in_order (open_questions types tags C offered)) → choosing (counting v 0) [] ≡ the-answer
+  stopped : {r : Refusal} → (blanks_of C.blocks ≡ [] → tables_ask types tags C ≡ refused r)
+      → in_order (open_questions types tags C offered) ≡ refused r → choosing (counting (refusing r) 0) [] ≡ the-answer
   unfolding offered_check by_blanks
-  stopped v n plain all = go (blanks_of C.blocks) refl
+  stopped {r} plain all = go (blanks_of C.blocks) refl
     where
-      go : (k : List ℕ) → blanks_of C.blocks ≡ k → choosing (counting v 0) [] ≡ by_blanks types tags C offered k
-      go [] e = ap (λ (a : CheckAnswer). choosing a []) (check-stops types tags C v (plain e) n)
-      go (b ∷ bs) e = choose_no b _ v all n
+      go : (k : List ℕ) → blanks_of C.blocks ≡ k → choosing (counting (refusing r) 0) [] ≡ by_blanks types tags C offered k
+      go [] e = ap (λ (a : CheckAnswer). choosing a []) (check-refused types tags C (plain e))
+      go (b ∷ bs) e = choose_no b all
 
   -- the questions after Q5
   abbrev rest : List (Outcome (Unit {0}))
   rest = open_annotations_ask (rows types) C.blocks ∷ offer_questions (rows types) C.blocks offered
 
-  module _ (u : Verdict) (eu : u ≡ verdict_of (first_ask types tags C)) where
-    pub first-answer : (u.number ≡ 0 → ⊥) → choosing (counting u 0) [] ≡ the-answer
-    first-answer n = stopped u n (λ _. tables-stop types tags C u eu n) (first_stops types tags C rest u eu n)
+  pub first-answer : {r : Refusal} → first_ask types tags C ≡ refused r → choosing (counting (refusing r) 0) [] ≡ the-answer
+  first-answer e = stopped (λ _. tables-refused types tags C e) (first-refused types tags C rest e)
 
-    module _ (zu : u.number ≡ 0) (v : Verdict) (ev : v ≡ verdict_of (open_annotations_ask (rows types) C.blocks)) where
-      left : ComesTo (verdict_of (in_order (open_questions types tags C offered))) rest
-      left = past_first types tags C rest u eu zu
+  module _ (q : first_ask types tags C ≡ ok tt) where
+    -- with no blank row this check's Q6 is Q6
+    plain : blanks_of C.blocks ≡ [] → tables_ask types tags C ≡ open_annotations_ask (rows types) C.blocks
+    plain e = tables-last types tags C q ∙ sym (no-blanks (rows types) C.blocks e)
 
-      -- with no blank row this check's Q6 is Q6
-      plain : blanks_of C.blocks ≡ [] → v ≡ verdict_of (tables_ask types tags C)
-      plain e = tables-on types tags C u eu zu v (ev ∙ ap verdict_of (no-blanks (rows types) C.blocks e))
+    pub annotation-answer : {r : Refusal} → open_annotations_ask (rows types) C.blocks ≡ refused r → choosing (counting (refusing r) 0) [] ≡ the-answer
+    annotation-answer {r} a =
+        stopped (λ e. plain e ∙ a) (first-passed types tags C rest q ∙ rw a (row-refused r (offer_questions (rows types) C.blocks offered)))
 
-      pub annotation-answer : (v.number ≡ 0 → ⊥) → choosing (counting v 0) [] ≡ the-answer
-      annotation-answer n = stopped v n plain (at-no left ev n)
+    module _ (a : open_annotations_ask (rows types) C.blocks ≡ ok tt) where
+      pub unread-answer : blanks_of C.blocks ≡ [] → choosing (judged (tables_of types tags) (routine_of C)) [] ≡ the-answer
+      unfolding offered_check by_blanks
+      unread-answer e = ap (λ (a : CheckAnswer). choosing a []) (check-judges types tags C (plain e ∙ a)) ∙ sym (ap (by_blanks types tags C offered) e)
 
-      module _ (zv : v.number ≡ 0) where
-        pub unread-answer : blanks_of C.blocks ≡ [] → choosing (judged (tables_of types tags) (routine_of C)) [] ≡ the-answer
-        unfolding offered_check by_blanks
-        unread-answer e =
-            ap (λ (a : CheckAnswer). choosing a []) (check-judges types tags C v (plain e) zv) ∙ sym (ap (by_blanks types tags C offered) e)
+      all-is : in_order (open_questions types tags C offered) ≡ offer_ask (rows types) C.blocks offered
+      unfolding offer_ask
+      all-is = first-passed types tags C rest q ∙ rw a (row-ok tt (offer_questions (rows types) C.blocks offered))
 
-        module _ (w : Verdict) (ew : w ≡ verdict_of (offer_ask (rows types) C.blocks offered)) where
-          all-is : w ≡ verdict_of (in_order (open_questions types tags C offered))
-          unfolding offer_ask
-          all-is = ew ∙ sym (after-yes left ev zv).asked
+      pub offer-answer : {r : Refusal} → offer_ask (rows types) C.blocks offered ≡ refused r → (blanks_of C.blocks ≡ [] → ⊥)
+          → choosing (counting (refusing r) 0) [] ≡ the-answer
+      offer-answer o some = stopped (λ e. absurd (some e)) (all-is ∙ o)
 
-          pub offer-answer : (blanks_of C.blocks ≡ [] → ⊥) → (w.number ≡ 0 → ⊥) → choosing (counting w 0) [] ≡ the-answer
-          offer-answer some n = stopped w n (λ e. absurd (some e)) all-is
-
-          -- past Q32 there are at most three blank blocks
-          pub opened : w.number ≡ 0 → (r : Blanks) → Lists (blanks_of C.blocks) r → r.three.first < 256 → Opened types tags C offered r.three
-          unfolding blanks_ask
-          opened z r L s =
-              let A = all-passed _ (no-refusal _ w all-is z) in
-              let few = leb-true _ _ (ask-ok _ _ _ A.1.1.1.1.1.0).0 in
-              record {
-                passed = A;
-                lists = three-listed _ r L few;
-                some = s;
-              }
+      -- past Q32 there are at most three blank blocks
+      pub opened : offer_ask (rows types) C.blocks offered ≡ ok tt → (r : Blanks) → Lists (blanks_of C.blocks) r → (get_or r.three 0 0) < 256
+          → Opened types tags C offered r.three
+      unfolding blanks_ask
+      opened o r L s =
+          let A = all-passed _ (all-is ∙ o) in
+          let few = leb-true _ _ (ask-ok _ _ _ A.1.1.1.1.1.0).0 in
+          record {
+            passed = A;
+            lists = three-listed _ r L few;
+            some = s;
+          }

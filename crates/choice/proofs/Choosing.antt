@@ -1,87 +1,82 @@
 -- Laws of the search: what striking out comes to, and the first choice that is left.
 use mathlib.Core.Path.{◌≡◌, refl, sym, ap, ◌∙◌}
 use mathlib.Core.Logic.{◌⊎◌, inl, inr}
-use mathlib.Core.Bool.{Bool, true, false, not, false≢true}
-use mathlib.Core.List.{List}
+use mathlib.Core.Bool.{Bool, true, false, false≢true}
+use mathlib.Core.List.{List, [], ◌∷◌}
+use Rattle.std.specs.Prelude.{Option, Some, None}
 use Prim.Native.Nat.{ℕ, ◌+◌, ◌-◌, ◌*◌, ◌/◌, ◌%◌, ◌<◌, ◌≤◌}
 use native.Mathlib.Omega.{arith}
 use lib.Dec.{eqb}
 use lib.ListN.{length, get_or, set, length-set, replicate, get_or-replicate}
 use lib.Seq.{get_or-set_same, get_or-set_other}
-use borrow.Author.Tests.{eq-eqb, ne_eqb, eqb-true}
-use Rattle.model.specs.Question.{◌and◌, pick, Outcome, ok, verdict_of}
+use borrow.Author.Tests.{eq-eqb, eqb-true}
+use Rattle.model.specs.Question.{◌and◌, Outcome, ok, verdict_of}
 use Rattle.model.specs.Word.{opcode_of}
-use Rattle.model.specs.Table.{rows, Tables, Routine}
+use Rattle.model.specs.Table.{rows, start_of, code_of, Tables, Routine}
 use Rattle.model.specs.Machine.{End, halt, jump, if_equal, if_less, end, instruction_at, well_formed, targets_exist}
 use Rattle.model.specs.Check.{block_ask, judge}
 use Rattle.model.specs.Blank.{offered_row, in_force}
-use Rattle.model.proofs.Logic.{by_test, by_equality, either, pick_true, pick-false, verdict-ok, ok-verdict, first_no-ok, ok-first_no}
+use Rattle.model.proofs.Logic.{by_test, by_equality, either, and-true, verdict-ok, ok-verdict, first_no-ok, ok-first_no}
 use Rattle.model.proofs.BlockReads.{AlikeAt, LeadsTo, block_reads}
-use Rattle.blank.specs.declared.Three.{Three}
-use Rattle.blank.specs.Force.{list}
 use Rattle.instruction.specs.Form.{end_of, target_of}
 use Rattle.instruction.proofs.Laws.{target-exists, next-exists, ends_as}
-use Rattle.choice.specs.Choices.{places_of, is_choice, weights_of, alike, passes, BlockOf, Tried, Struck, Narrows, First, Searches}
+use Rattle.verify.specs.declared.lent.Routine.{Routine as Lent}
+use Rattle.verify.specs.declared.lent.Block.{Block}
+use Rattle.verify.proofs.Blocks.{part_of, block_at}
+use Rattle.choice.specs.Choices.{places_of, is_choice, weights_of, alike, passes, BlockOf, Routines, Tried, Struck, Narrows, First, Searches}
 use Rattle.choice.proofs.Numbers.{weight-read, weighs, Alike, alike_is, alike-choice}
-
--- ---- what is left of a choice
-
--- of a choice that does not stand nothing is left
-pub fallen : (x : ℕ) (c : Bool) → not (eqb x 0) and c ≡ false → c ≡ true → x ≡ 0
-unfolding ◌and◌
-fallen x c h e = by_equality x 0 (λ z. z) (λ n. absurd (false≢true (sym (rw (ne_eqb x 0 n) at h) ∙ e)))
-
-pub standing : (x : ℕ) (c : Bool) → not (eqb x 0) and c ≡ true → (c ≡ true) × (x ≡ 0 → ⊥)
-unfolding ◌and◌
-standing x c h = by_equality x 0 (λ z. absurd (false≢true (rw (eq-eqb x 0 z) at h))) (λ n. (rw (ne_eqb x 0 n) at h, n))
 
 -- ---- striking out
 
-pub struck-none : (w : Three) (passed left : List ℕ) → Struck w passed left left 0
+pub struck-none : (w : List ℕ) (passed left : List Bool) → Struck w passed left left 0
 struck-none w passed left = record { long = refl; struck = λ i h k. absurd (omega arith); others = λ i h. refl }
 
-pub struck-on : {w : Three} {passed left left' : List ℕ} {n : ℕ} → Struck w passed left left' n → length left ≡ 512 → n < 512 → (x : ℕ)
-    → x ≡ pick (eqb (get_or passed (alike w n) 0) 0) 0 (get_or left' n 0) → Struck w passed left (set left' n x) (n + 1)
+pub struck-on : {w : List ℕ} {passed left left' : List Bool} {n : ℕ} → Struck w passed left left' n → length left ≡ 512 → n < 512 → (x : Bool)
+    → x ≡ (get_or left' n false and get_or passed (alike w n) false) → Struck w passed left (set left' n x) (n + 1)
 struck-on {w = w} {passed = passed} {left = left} {left' = left'} {n = n} S e h x ex =
     record {
       long = length-set left' n x ∙ S.long;
       struck = λ i l k.
           by_equality i n
-          (λ q. rw q (get_or-set_same left' n x 0 (omega (arith, S.long))
+          (λ q. rw q (get_or-set_same left' n x false (omega (arith, S.long))
           ∙ ex
-          ∙ ap (pick (eqb (get_or passed (alike w n) 0) 0) 0) (S.others n (omega arith))))
-          (λ d. get_or-set_other left' n i x 0 d ∙ S.struck i (omega arith) k);
-      others = λ i l. get_or-set_other left' n i x 0 (λ q. omega arith) ∙ S.others i (omega arith);
+          ∙ ap (λ (y : Bool). y and get_or passed (alike w n) false) (S.others n (omega arith))))
+          (λ d. get_or-set_other left' n i x false d ∙ S.struck i (omega arith) k);
+      others = λ i l. get_or-set_other left' n i x false (λ q. omega arith) ∙ S.others i (omega arith);
     }
 
 -- ---- trying the choices
 
-module _ {𝒯 : Tables} {P : ℕ → Routine} {m w : Three} {b : ℕ} {passed : List ℕ} {n : ℕ} (T : Tried 𝒯 P m w b passed n) where
-  pub tried-on : n < length passed → (x : ℕ) → (is_choice m n ≡ true → alike w n ≡ n → x ≡ pick (passes 𝒯 (P n) b) 1 0)
+module _ {𝒯 : Tables} {P : ℕ → Routine} {m w : List ℕ} {b : ℕ} {passed : List Bool} {n : ℕ} (T : Tried 𝒯 P m w b passed n) where
+  pub tried-on : n < length passed → (x : Bool) → (is_choice m n ≡ true → alike w n ≡ n → x ≡ passes 𝒯 (P n) b)
       → Tried 𝒯 P m w b (set passed n x) (n + 1)
   tried-on h x ex =
       record {
         at = λ i l c e.
-            by_equality i n (λ q. rw q (get_or-set_same passed n x 0 h ∙ ex (rw q at c) (rw q at e)))
-            (λ d. get_or-set_other passed n i x 0 d ∙ T.at i (omega arith) c e);
+            by_equality i n (λ q. rw q (get_or-set_same passed n x false h ∙ ex (rw q at c) (rw q at e)))
+            (λ d. get_or-set_other passed n i x false d ∙ T.at i (omega arith) c e);
       }
 
 -- ---- what a block cannot tell apart
 
-module _ (blocks offered : List ℕ) (blanks : Three) (i k : ℕ) where
-  -- the row in force of block t is the same with choices i and k, if they agree in the place of the blank block that t is
-  force-same : (t : ℕ) → (t ≡ blanks.first → k / 64 ≡ i / 64) → (t ≡ blanks.second → k / 8 % 8 ≡ i / 8 % 8) → (t ≡ blanks.third → k % 8 ≡ i % 8)
-      → in_force blocks offered (list blanks) (list (places_of i)) t ≡ in_force blocks offered (list blanks) (list (places_of k)) t
-  force-same t a b c =
-      by_test (eqb t blanks.first) (λ q. rw q (ap (offered_row offered) (sym (a (eqb-true _ _ q)))))
-      (λ q. rw q (by_test (eqb t blanks.second) (λ q. rw q (ap (offered_row offered) (sym (b (eqb-true _ _ q)))))
-      (λ q. rw q (by_test (eqb t blanks.third) (λ q. rw q (ap (offered_row offered) (sym (c (eqb-true _ _ q))))) (λ q. rw q)))))
+-- the row in force of block t is the same with choices i and k, if they agree in the place of the blank block that t is
+force-same : (blocks offered blanks : List ℕ) (i k t : ℕ) → length blanks ≡ 3
+    → (t ≡ get_or blanks 0 0 → k / 64 ≡ i / 64) → (t ≡ get_or blanks 1 0 → k / 8 % 8 ≡ i / 8 % 8) → (t ≡ get_or blanks 2 0 → k % 8 ≡ i % 8)
+    → in_force blocks offered blanks (places_of i) t ≡ in_force blocks offered blanks (places_of k) t
+force-same blocks offered [] i k t e a b c = absurd (omega arith)
+force-same blocks offered (x ∷ []) i k t e a b c = absurd (omega arith)
+force-same blocks offered (x ∷ y ∷ []) i k t e a b c = absurd (omega arith)
+force-same blocks offered (x ∷ y ∷ z ∷ []) i k t e a b c =
+    by_test (eqb t x) (λ q. rw q (ap (offered_row offered) (sym (a (eqb-true _ _ q)))))
+    (λ q. rw q (by_test (eqb t y) (λ q. rw q (ap (offered_row offered) (sym (b (eqb-true _ _ q)))))
+    (λ q. rw q (by_test (eqb t z) (λ q. rw q (ap (offered_row offered) (sym (c (eqb-true _ _ q))))) (λ q. rw q)))))
+force-same blocks offered (x ∷ y ∷ z ∷ u ∷ l) i k t e a b c = absurd (omega arith)
 
 -- target is that of the block's last word, where it has one
-module _ (𝒯 : Tables) {P : ℕ → Routine} {blocks offered : List ℕ} {blanks m : Three} {b first : ℕ} {part : List ℕ}
-    (B : BlockOf P blocks offered blanks m b first part) (exists : b * 9 + 9 ≤ length blocks) (target : ℕ)
+module _ (𝒯 : Tables) {P : ℕ → Routine} {blocks offered blanks m : List ℕ} {b first : ℕ} {part : List ℕ}
+    (three : length blanks ≡ 3) (B : BlockOf P blocks offered blanks m b first part) (exists : b * 9 + 9 ≤ length blocks) (target : ℕ)
     (leads : let w = get_or part (length part - 1) 0 in well_formed w ≡ true → (0 < opcode_of w → 9 < opcode_of w) → target ≡ target_of (end_of w)) where
-  abbrev w : Three
+  abbrev w : List ℕ
   w = weights_of blanks b target
 
   module _ (i : ℕ) (h : i < 512) (c : is_choice m i ≡ true) where
@@ -101,10 +96,10 @@ module _ (𝒯 : Tables) {P : ℕ → Routine} {blocks offered : List ℕ} {blan
     read_same : (t : ℕ) → t < rows blocks → (t ≡ b) ⊎ ((t ≡ b + 1) ⊎ (t ≡ target)) → (P i).annotation t ≡ (P k).annotation t
     read_same t l r =
         (B.annotated i h c).annotation t l
-        ∙ force-same blocks offered blanks i k t
-        (λ e. a.first.1 (weight-read blanks.first b target 64 t r e))
-        (λ e. a.second.1 (weight-read blanks.second b target 8 t r e))
-        (λ e. a.third.1 (weight-read blanks.third b target 1 t r e))
+        ∙ force-same blocks offered blanks i k t three
+        (λ e. a.first.1 (weight-read (get_or blanks 0 0) b target 64 t r e))
+        (λ e. a.second.1 (weight-read (get_or blanks 1 0) b target 8 t r e))
+        (λ e. a.third.1 (weight-read (get_or blanks 2 0) b target 1 t r e))
         ∙ sym ((B.annotated k k-below k-choice).annotation t l)
 
     block-alike : AlikeAt (P i) (P k) b
@@ -152,14 +147,19 @@ module _ (𝒯 : Tables) {P : ℕ → Routine} {blocks offered : List ℕ} {blan
         (block_reads 𝒯 (P i) (P k) b block-alike (read_same b (omega arith) (inl refl)) onward)
 
   -- no row is read that is chosen: all choices come to the same
-  pub narrow-once : w.first + w.second + w.third ≡ 0 → (left : List ℕ) → is_choice m 0 ≡ true → (r : Bool) → r ≡ passes 𝒯 (P 0) b
+  pub narrow-once : get_or w 0 0 + get_or w 1 0 + get_or w 2 0 ≡ 0 → (left : List Bool) → is_choice m 0 ≡ true → (r : Bool) → r ≡ passes 𝒯 (P 0) b
       → Narrows 𝒯 P m b left left r
+  unfolding ◌and◌
   narrow-once z left c₀ r e =
       let same : (i : ℕ) → i < 512 → is_choice m i ≡ true → passes 𝒯 (P i) b ≡ r =
       λ i h c. passes_same i h c ∙ ap (λ (j : ℕ). passes 𝒯 (P j) b) ((alike_is w (weighs blanks b target) i h).none z) ∙ sym e in
-      record { kept = λ t i h c. rw (same i h c ∙ t); none = λ f i h c. same i h c ∙ f }
+      record { kept = λ t i h c. rw (same i h c ∙ t) (sym (and-yes (get_or left i false))); none = λ f i h c. same i h c ∙ f }
+    where
+      and-yes : (a : Bool) → (a and true) ≡ a
+      and-yes true = refl
+      and-yes false = refl
 
-  pub narrow-each : (passed left left' : List ℕ) → Tried 𝒯 P m w b passed 512 → Struck w passed left left' 512 → Narrows 𝒯 P m b left left' true
+  pub narrow-each : (passed left left' : List Bool) → Tried 𝒯 P m w b passed 512 → Struck w passed left left' 512 → Narrows 𝒯 P m b left left' true
   narrow-each passed left left' T S =
       record {
         kept = λ t i h c.
@@ -167,25 +167,32 @@ module _ (𝒯 : Tables) {P : ℕ → Routine} {blocks offered : List ℕ} {blan
             let A = alike_is w W i h in
             let tried =
             T.at (alike w i) (omega (arith, A.below)) (alike-choice w W i h m c) A.again
-            ∙ ap (λ (q : Bool). pick q 1 0) (sym (passes_same i h c)) in
-            S.struck i h h ∙ kept-is (get_or passed (alike w i) 0) (passes 𝒯 (P i) b) (get_or left i 0) tried;
+            ∙ sym (passes_same i h c) in
+            S.struck i h h ∙ ap (λ (q : Bool). get_or left i false and q) tried;
         none = λ f. absurd (false≢true (sym f));
       }
-    where
-      kept-is : (x : ℕ) (q : Bool) (l : ℕ) → x ≡ pick q 1 0 → pick (eqb x 0) 0 l ≡ pick q l 0
-      kept-is x true l e = rw e
-      kept-is x false l e = rw e
 
 -- ---- all blocks
 
-module _ (𝒯 : Tables) (P : ℕ → Routine) (m : Three) where
+-- block b of the routines that the choices make, as the routine hands it out
+pub block_of : (r : Lent) (b : ℕ) → b < rows r.blocks.now → (x : Block)
+    → (x.number ≡ b) × (x.first ≡ start_of r.blocks.now b) × (x.code.now ≡ part_of (code_of r.blocks.now r.code.now) b)
+    → {P : ℕ → Routine} {offered blanks m : List ℕ} → Routines P (code_of r.blocks.now r.code.now) offered blanks m
+    → BlockOf P r.blocks.now offered blanks m x.number x.first x.code.now
+block_of r b h x e R =
+    record {
+      annotated = R.annotated;
+      at = λ i l k. block_at (code_of r.blocks.now r.code.now) r.starts.now b r.tabled r.placed h x e _ (R.divided i l k);
+    }
+
+module _ (𝒯 : Tables) (P : ℕ → Routine) (m : List ℕ) where
   abbrev PassBelow : ℕ → ℕ → Type 0
   PassBelow i b = (k : ℕ) → k < b → block_ask 𝒯 (P i) k ≡ ok tt
 
   -- the choices that are left are those with which the blocks below b pass
-  pub record LeftSo (left : List ℕ) (b : ℕ) : Type 0 where
-    pub kept : (i : ℕ) → i < 512 → is_choice m i ≡ true → (get_or left i 0 ≡ 0 → ⊥) → PassBelow i b
-    pub gone : (i : ℕ) → i < 512 → is_choice m i ≡ true → get_or left i 0 ≡ 0 → PassBelow i b → ⊥
+  pub record LeftSo (left : List Bool) (b : ℕ) : Type 0 where
+    pub kept : (i : ℕ) → i < 512 → is_choice m i ≡ true → get_or left i false ≡ true → PassBelow i b
+    pub gone : (i : ℕ) → i < 512 → is_choice m i ≡ true → PassBelow i b → get_or left i false ≡ true
 
   pass-ok : (i b : ℕ) → passes 𝒯 (P i) b ≡ true → block_ask 𝒯 (P i) b ≡ ok tt
   pass-ok i b h = verdict-ok (block_ask 𝒯 (P i) b) (eqb-true _ _ h)
@@ -193,24 +200,18 @@ module _ (𝒯 : Tables) (P : ℕ → Routine) (m : Three) where
   ok-pass : (i b : ℕ) → block_ask 𝒯 (P i) b ≡ ok tt → passes 𝒯 (P i) b ≡ true
   ok-pass i b h = eq-eqb _ _ (ok-verdict (block_ask 𝒯 (P i) b) h)
 
-  pub left-ones : LeftSo (replicate 512 1) 0
-  left-ones =
-      record {
-        kept = λ i l c n k z. absurd (omega arith);
-        gone = λ i l c z p. let e = get_or-replicate {A = ℕ} 512 i 1 0 l in omega arith;
-      }
+  pub left-ones : LeftSo (replicate 512 true) 0
+  left-ones = record { kept = λ i l c n k z. absurd (omega arith); gone = λ i l c p. get_or-replicate {A = Bool} 512 i true false l }
 
-  pub left-on : (left left' : List ℕ) (b : ℕ) (some : Bool) → LeftSo left b → Narrows 𝒯 P m b left left' some → some ≡ true → LeftSo left' (b + 1)
+  pub left-on : (left left' : List Bool) (b : ℕ) (some : Bool) → LeftSo left b → Narrows 𝒯 P m b left left' some → some ≡ true → LeftSo left' (b + 1)
+  unfolding ◌and◌
   left-on left left' b some L N t =
       record {
         kept = λ i l c n k h.
-            by_test (passes 𝒯 (P i) b)
-            (λ q. let e = N.kept t i l c ∙ pick_true _ _ _ q in
-            by_equality k b (λ z. rw z (pass-ok i b q)) (λ d. L.kept i l c (λ z. n (e ∙ z)) k (omega arith)))
-            (λ q. absurd (n (N.kept t i l c ∙ pick-false _ _ _ q)));
-        gone = λ i l c z p.
-            let q = ok-pass i b (p b (omega arith)) in
-            L.gone i l c (sym (N.kept t i l c ∙ pick_true _ _ _ q) ∙ z) (λ k h. p k (omega arith));
+            let (was, now) = and-true (get_or left i false) _ (sym (N.kept t i l c) ∙ n) in
+            by_equality k b (λ z. rw z (pass-ok i b now)) (λ d. L.kept i l c was k (omega arith));
+        gone = λ i l c p.
+            N.kept t i l c ∙ rw (L.gone i l c (λ k h. p k (omega arith)), ok-pass i b (p b (omega arith)));
       }
 
   module _ (n : ℕ) (count : (i : ℕ) → i < 512 → is_choice m i ≡ true → (P i).count ≡ n) where
@@ -222,22 +223,17 @@ module _ (𝒯 : Tables) (P : ℕ → Routine) (m : Three) where
     unfolding judge
     pass_all i l c p = ok-first_no (P i).count 0 _ (λ k lo hi. p k (let z = count i l c in omega arith))
 
-    pub search-stops : (left left' : List ℕ) (b : ℕ) (some : Bool) → b < n → Narrows 𝒯 P m b left left' some → some ≡ false → Searches 𝒯 P m 512
-    search-stops left left' b some h N f =
-        record {
-          within = omega arith;
-          is = λ l. absurd (omega arith);
-          before = λ i l c e. false≢true (sym (N.none f i l c) ∙ ok-pass i b (all_pass i l c e b h));
-        }
+    pub search-stops : (left left' : List Bool) (b : ℕ) (some : Bool) → b < n → Narrows 𝒯 P m b left left' some → some ≡ false → Searches 𝒯 P m None
+    search-stops left left' b some h N f = λ i l c e. false≢true (sym (N.none f i l c) ∙ ok-pass i b (all_pass i l c e b h))
 
-    pub search-ends : (left : List ℕ) (b r : ℕ) → LeftSo left b → b ≡ n → First m left r → Searches 𝒯 P m r
-    search-ends left b r L e F =
+    pub search-ends : (left : List Bool) (b : ℕ) (r : Option ℕ) → LeftSo left b → b ≡ n → First m left r → Searches 𝒯 P m r
+    search-ends left b None L e F = λ i l c j. F i l c (L.gone i l c (λ k h. all_pass i l c j k (omega arith)))
+    search-ends left b (Some r) L e F =
         record {
           within = F.within;
-          is = λ l.
-              let (c, d) = F.is l in
-              (c, pass_all r l c (λ k h. L.kept r l c d k (omega arith)));
+          is = F.is;
+          has = pass_all r F.within F.is (λ k h. L.kept r F.within F.is F.has k (omega arith));
           before = λ i l c j.
               let i-below : i < 512 = omega (arith, F.within) in
-              L.gone i i-below c (F.before i l c) (λ k h. all_pass i i-below c j k (omega arith));
+              F.before i l c (L.gone i i-below c (λ k h. all_pass i i-below c j k (omega arith)));
         }

@@ -1,12 +1,12 @@
 -- Laws of filling: what an accepted answer gives, and the chosen rows laid one after another.
 use mathlib.Core.Path.{◌≡◌, refl, sym, ap, ◌∙◌}
-use mathlib.Core.Bool.{false}
 use mathlib.Core.List.{List, [], ◌∷◌}
-use Prim.Native.Nat.{ℕ, ◌+◌, ◌*◌, ◌<◌, ◌≤◌}
+use Prim.Native.Nat.{ℕ, zero, suc, ◌+◌, ◌*◌, ◌<◌, ◌≤◌}
+use native.Mathlib.Numerals.{add-one}
 use native.Mathlib.Omega.{arith}
 use lib.Dec.{ltb}
 use lib.ListN.{length, get_or, get_or-eq_default}
-use borrow.Author.Tests.{lt-ltb, le-ltb, eq-eqb, ne_eqb, leb-true}
+use borrow.Author.Tests.{lt-ltb, eq-eqb, ne_eqb, leb-true}
 use Rattle.model.specs.declared.CheckAnswer.{CheckAnswer}
 use Rattle.model.specs.declared.OfferedAnswer.{OfferedAnswer}
 use Rattle.model.specs.Question.{pick, ok}
@@ -18,7 +18,6 @@ use Rattle.model.specs.Blank.{blanks_of, blanks_ask, offers, offered_row, Choice
 use Rattle.model.proofs.Logic.{by_less, ask-ok, then_ok, all-passed, verdict-ok, ok-verdict}
 use Rattle.model.proofs.Choice.{least-choices}
 use Rattle.table.proofs.Laws.{code-lengths-passed}
-use Rattle.blank.specs.declared.Three.{Three}
 use Rattle.blank.specs.declared.Blanks.{Blanks}
 use Rattle.blank.specs.Force.{Lists}
 use Rattle.blank.proofs.Laws.{blanks-below}
@@ -30,23 +29,33 @@ use Rattle.choice.proofs.Lists.{Shape, no-blank, one-blank, two-blank, three-bla
 abbrev pub laid_over : List ℕ → List ℕ → ℕ → ℕ → List ℕ
 laid_over blocks offered b k = pick (ltb b 256) (laid_at blocks (b * 9 + 1) (offered_row offered k)) blocks
 
-gone : {b : ℕ} → b ≡ 256 → ltb b 256 ≡ false
-gone {b = b} e = le-ltb b 256 (omega arith)
+-- the first n rows laid
+pub laid_first : List ℕ → List ℕ → List ℕ → List ℕ → ℕ → List ℕ
+laid_first blocks offered bs ks zero = blocks
+laid_first blocks offered bs ks (suc n) = laid_over (laid_first blocks offered bs ks n) offered (get_or bs n 0) (get_or ks n 0)
+
+pub laid-none : (blocks offered bs ks : List ℕ) → blocks ≡ laid_first blocks offered bs ks 0
+unfolding laid_first
+laid-none blocks offered bs ks = refl
+
+pub laid-more : (blocks offered bs ks : List ℕ) (n : ℕ) {one two : List ℕ} → one ≡ laid_first blocks offered bs ks n
+    → two ≡ laid_over one offered (get_or bs n 0) (get_or ks n 0) → two ≡ laid_first blocks offered bs ks (n + 1)
+unfolding laid_first
+laid-more blocks offered bs ks n e₁ e₂ = rw (add-one, ← e₁) e₂
 
 module _ (blocks offered : List ℕ) (k₁ k₂ k₃ : ℕ) where
-  pub laid-three : (blanks : Three) {l : List ℕ} → Shape blanks l
-      → laid_over (laid_over (laid_over blocks offered blanks.first k₁) offered blanks.second k₂) offered blanks.third k₃
-      ≡ filled blocks offered l (k₁ ∷ k₂ ∷ k₃ ∷ [])
-  unfolding filled
-  laid-three blanks (no-blank x y z) = rw (gone x, gone y, gone z)
-  laid-three blanks (one-blank x u y z) = rw (gone y, gone z, x, lt-ltb _ 256 u)
-  laid-three blanks (two-blank x u y v z) = rw (gone z, x, y, lt-ltb _ 256 u, lt-ltb _ 256 v)
-  laid-three blanks (three-blank x u y v z t) = rw (x, y, z, lt-ltb _ 256 u, lt-ltb _ 256 v, lt-ltb _ 256 t)
+  pub laid-three : (blanks : List ℕ) {l : List ℕ} → Shape blanks l
+      → laid_first blocks offered blanks (k₁ ∷ k₂ ∷ k₃ ∷ []) 3 ≡ filled blocks offered l (k₁ ∷ k₂ ∷ k₃ ∷ [])
+  unfolding filled laid_first
+  laid-three blanks (no-blank e) = rw e
+  laid-three blanks (one-blank e u) = rw (e, lt-ltb _ 256 u)
+  laid-three blanks (two-blank e u v) = rw (e, lt-ltb _ 256 u, lt-ltb _ 256 v)
+  laid-three blanks (three-blank e u v t) = rw (e, lt-ltb _ 256 u, lt-ltb _ 256 v, lt-ltb _ 256 t)
 
 -- ---- what an accepted answer gives
 
 -- its places are a choice for the blank blocks
-pub record Fillable (C : Code) (offered : List ℕ) (a : OfferedAnswer) (blanks : Three) : Type 0 where
+pub record Fillable (C : Code) (offered : List ℕ) (a : OfferedAnswer) (blanks : List ℕ) : Type 0 where
   pub check : CheckAnswer
   pub chosen : List ℕ
   pub is : a ≡ choosing check chosen
@@ -73,7 +82,7 @@ module _ (types tags : List ℕ) (C : Code) (offered : List ℕ) (a : OfferedAns
       go (b ∷ bs) n = (((least-choices types tags C offered).passed b bs n).0 accepted).0.1.0
 
   pub accepted-most : length C.blocks ≤ 2304
-  accepted-most = (code-lengths-passed _ (length C.code) _ refl (ok-verdict _ lengths-ok)).most
+  accepted-most = (code-lengths-passed (length C.blocks) (length C.code) lengths-ok).most
 
   few : (b : ℕ) (bs : List ℕ) → blanks_of C.blocks ≡ b ∷ bs → length (blanks_of C.blocks) ≤ 3
   unfolding blanks_ask
@@ -115,37 +124,53 @@ module _ (C : Code) (offered : List ℕ) (a : OfferedAnswer) (r : Blanks) (L : L
   row_is k h = omega arith
 
   rows_fit : {l c : List ℕ} → Shape r.three l → Choice (offers offered) (length l) c
-      → (r.three.first < 256 → get_or c 0 0 * 8 + 8 ≤ length offered)
-      × (r.three.second < 256 → get_or c 1 0 * 8 + 8 ≤ length offered)
-      × (r.three.third < 256 → get_or c 2 0 * 8 + 8 ≤ length offered)
-  rows_fit (no-blank x y z) none = (λ h. absurd (omega arith), λ h. absurd (omega arith), λ h. absurd (omega arith))
-  rows_fit (one-blank x u y z) (more p none) = (λ h. row_is _ p, λ h. absurd (omega arith), λ h. absurd (omega arith))
-  rows_fit (two-blank x u y v z) (more p (more q none)) = (λ h. row_is _ p, λ h. row_is _ q, λ h. absurd (omega arith))
-  rows_fit (three-blank x u y v z t) (more p (more q (more s none))) = (λ h. row_is _ p, λ h. row_is _ q, λ h. row_is _ s)
+      → (k : ℕ) → k < 3 → get_or r.three k 0 < 256 → get_or c k 0 * 8 + 8 ≤ length offered
+  rows_fit S D k l h = go S D k l h
+    where
+      go : {bs l c : List ℕ} → Shape bs l → Choice (offers offered) (length l) c
+          → (k : ℕ) → k < 3 → get_or bs k 0 < 256 → get_or c k 0 * 8 + 8 ≤ length offered
+      go (no-blank e) none zero l h = absurd (let s = rw e at h in omega arith)
+      go (no-blank e) none (suc zero) l h = absurd (let s = rw e at h in omega arith)
+      go (no-blank e) none (suc (suc zero)) l h = absurd (let s = rw e at h in omega arith)
+      go (no-blank e) none (suc (suc (suc k))) l h = absurd (omega arith)
+      go (one-blank e u) (more p none) zero l h = row_is _ p
+      go (one-blank e u) (more p none) (suc zero) l h = absurd (let s = rw e at h in omega arith)
+      go (one-blank e u) (more p none) (suc (suc zero)) l h = absurd (let s = rw e at h in omega arith)
+      go (one-blank e u) (more p none) (suc (suc (suc k))) l h = absurd (omega arith)
+      go (two-blank e u v) (more p (more q none)) zero l h = row_is _ p
+      go (two-blank e u v) (more p (more q none)) (suc zero) l h = row_is _ q
+      go (two-blank e u v) (more p (more q none)) (suc (suc zero)) l h = absurd (let s = rw e at h in omega arith)
+      go (two-blank e u v) (more p (more q none)) (suc (suc (suc k))) l h = absurd (omega arith)
+      go (three-blank e u v t) (more p (more q (more s none))) zero l h = row_is _ p
+      go (three-blank e u v t) (more p (more q (more s none))) (suc zero) l h = row_is _ q
+      go (three-blank e u v t) (more p (more q (more s none))) (suc (suc zero)) l h = row_is _ s
+      go (three-blank e u v t) (more p (more q (more s none))) (suc (suc (suc k))) l h = absurd (omega arith)
+
+  listed : (k : ℕ) → k < 3 → get_or r.three k 0 ≡ get_or (blanks_of C.blocks) k 256
+  listed zero l = ap (λ (t : List ℕ). get_or t 0 0) L.three
+  listed (suc zero) l = ap (λ (t : List ℕ). get_or t 1 0) L.three
+  listed (suc (suc zero)) l = ap (λ (t : List ℕ). get_or t 2 0) L.three
+  listed (suc (suc (suc k))) l = absurd (omega arith)
 
   place : (j : ℕ) → get_or a.choice j 0 ≡ get_or (choosing F.check F.chosen).choice j 0
   place j = ap (λ (x : OfferedAnswer). get_or x.choice j 0) F.is
 
+  -- the choice of an answer has three places
+  at_place : (k : ℕ) → k < 3 → get_or (choosing F.check F.chosen).choice k 0 ≡ get_or F.chosen k 0
+  at_place zero l = refl
+  at_place (suc zero) l = refl
+  at_place (suc (suc zero)) l = refl
+  at_place (suc (suc (suc k))) l = absurd (omega arith)
+
   -- a block and a row of such numbers are there
-  abbrev Laid : ℕ → ℕ → Type 0
-  Laid b k = b < 256 → (b * 9 + 9 ≤ length C.blocks) × (k * 8 + 8 ≤ length offered)
+  pub may-lay : (k : ℕ) → k < 3 → get_or r.three k 0 < 256
+      → (get_or r.three k 0 * 9 + 9 ≤ length C.blocks) × (get_or a.choice k 0 * 8 + 8 ≤ length offered)
+  may-lay k l h = (exists (get_or r.three k 0) k (listed k l) h, rw (place k, at_place k l) (rows_fit F.blocks F.places k l h))
 
-  pub may-lay : Laid r.three.first (get_or a.choice 0 0) × Laid r.three.second (get_or a.choice 1 0) × Laid r.three.third (get_or a.choice 2 0)
-  may-lay =
-      let (f, s, t) = rows_fit F.blocks F.places in (
-        λ h. (exists _ 0 L.first h, rw (place 0) (f h)),
-        λ h. (exists _ 1 L.second h, rw (place 1) (s h)),
-        λ h. (exists _ 2 L.third h, rw (place 2) (t h)),
-      )
-
-  pub all_laid : (one two three : List ℕ) → one ≡ laid_over C.blocks offered r.three.first (get_or a.choice 0 0)
-      → two ≡ laid_over one offered r.three.second (get_or a.choice 1 0) → three ≡ laid_over two offered r.three.third (get_or a.choice 2 0)
-      → three ≡ filled C.blocks offered (blanks_of C.blocks) a.choice
-  all_laid one two three e₁ e₂ e₃ =
+  pub all_laid : laid_first C.blocks offered r.three a.choice 3 ≡ filled C.blocks offered (blanks_of C.blocks) a.choice
+  all_laid =
       let same : get_or a.choice 0 0 ∷ get_or a.choice 1 0 ∷ get_or a.choice 2 0 ∷ [] ≡ a.choice = rw F.is in
-      e₃
-      ∙ rw (e₂, e₁) (laid-three C.blocks offered (get_or a.choice 0 0) (get_or a.choice 1 0) (get_or a.choice 2 0) r.three F.blocks)
-      ∙ ap (filled C.blocks offered (blanks_of C.blocks)) same
+      rw (← same) (laid-three C.blocks offered (get_or a.choice 0 0) (get_or a.choice 1 0) (get_or a.choice 2 0) r.three F.blocks)
 
 -- a refused routine's table is as it was, an accepted one's is filled
 module _ (blocks offered : List ℕ) (a : OfferedAnswer) where

@@ -3,69 +3,80 @@
 
 mod inputs;
 
-ghost use Rattle.std.specs.Prelude.{◌≡◌, false, not};
-ghost use Rattle.console.specs.Status.{status_of};
+ghost use Rattle.std.specs.Prelude.{◌≡◌, false, is_err};
+ghost use Rattle.std.specs.Result.{result_unwrap_or};
+ghost use Rattle.console.specs.Status.{status_of, number_of};
+ghost use Rattle.std.specs.Process.{exit_status};
 
 use answers::Style;
-use inputs::Ended;
+use inputs::Reported;
 use std::env::Env;
+use std::io;
+use std::process::ExitCode;
 use std::rt::Files;
-use terminal::arguments::Asked;
-use terminal::{arguments, help};
+use terminal::arguments::{Asked, Wish};
+use terminal::{arguments, failures, help};
 
-// ---- how it ended
-
-// Every answer was 0 or 40.
-pub const ALL_WELL: i32 = 0;
-// Some request was refused, or some line was malformed.
-pub const REFUSED: i32 = 1;
-// The arguments are not those of the program.
-pub const USAGE: i32 = 2;
-// Input or output failed.
-pub const FAILED: i32 = 3;
-
-// How the inputs ended, as a status.
-fn status(e: Ended) -> i32
-    ensures { result ≡ status_of e.failed e.refused }
-{
-    if e.failed {
-        return FAILED;
-    }
-    if e.refused {
-        return REFUSED;
-    }
-    ALL_WELL
+// How the program ended; the number is its exit status.
+#[derive(Clone, Copy, PartialEq, Eq)]
+pub enum Status {
+    // every answer was 0 or 40
+    AllWell = 0,
+    // some request was refused, or some line was malformed
+    Refused = 1,
+    // the arguments are not those of the program
+    Usage = 2,
+    // input or output failed
+    Failed = 3,
 }
 
-fn serve<R: Env + Files + Input + Print>(rt: &R, err: &impl Print, a: Asked) -> i32 {
-    let s = Style {
-        worded: a.worded,
-        lined: a.lined,
+impl From<Status> for ExitCode {
+    ghost from_gives = { λ status code. exit_status code ≡ number_of status };
+
+    fn from(status: Status) -> ExitCode {
+        ExitCode::from(status as u8)
+    }
+}
+
+// How the inputs ended, as a status.
+fn after_inputs(ended: Result<bool, Reported>) -> Status
+    ensures { result ≡ status_of (is_err ended) (result_unwrap_or ended false) }
+{
+    match ended {
+        Ok(false) => Status::AllWell,
+        Ok(true) => Status::Refused,
+        Err(Reported) => Status::Failed,
+    }
+}
+
+fn serve<R: Env + Files + Input + Print>(rt: &R, err: &impl Print, asked: Asked) -> Status {
+    let style = Style {
+        worded: asked.worded,
+        lined: asked.lined,
     };
-    status(inputs::all(rt, err, s, a.named))
+    after_inputs(inputs::all(rt, err, style, asked.named))
 }
 
 // Whether a text of the program's own was written, as a status.
-fn said(written: bool) -> i32
-    ensures { result ≡ status_of (not written) false }
+fn said(err: &impl Print, written: io::Result<()>) -> Status
+    ensures { result ≡ status_of (is_err written) false }
 {
-    if written {
-        return ALL_WELL;
+    match written {
+        Ok(()) => Status::AllWell,
+        Err(why) => {
+            failures::of(err, b"standard output", why);
+            Status::Failed
+        }
     }
-    FAILED
 }
 
-// The program, and its exit status. Standard error takes bytes, as the names of inputs are.
-pub fn ramdulsi_program<R: Env + Files + Input + Print>(rt: &R, err: &impl Print) -> i32 {
-    let a = arguments::wished(rt, err);
-    if a.wish == arguments::SERVE {
-        return serve(rt, err, a);
+// The program, and how it ended. Standard error takes bytes, as the names of inputs are.
+pub fn ramdulsi_program<R: Env + Files + Input + Print>(rt: &R, err: &impl Print) -> Status {
+    let asked = arguments::wished(rt, err);
+    match asked.wish {
+        Wish::Serve => serve(rt, err, asked),
+        Wish::Help => said(err, help::help(rt)),
+        Wish::Version => said(err, help::version(rt)),
+        Wish::Nothing => Status::Usage,
     }
-    if a.wish == arguments::HELP {
-        return said(help::help(rt, err));
-    }
-    if a.wish == arguments::VERSION {
-        return said(help::version(rt, err));
-    }
-    USAGE
 }

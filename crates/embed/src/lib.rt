@@ -1,4 +1,5 @@
-// The six calls for C and Rust: a table is a pointer and a length, an answer is a number returned and words that the caller lends.
+// The six calls for C and Rust: a table is a pointer and a length, an answer is a number returned and words that the caller lends. The C
+// interface fixes their parameters.
 // Each contract is the call's own, with the words that it fills.
 #![tactic(auto)]
 

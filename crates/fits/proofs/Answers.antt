@@ -1,21 +1,23 @@
 -- One law for each way out of a function.
 use mathlib.Core.Path.{◌≡◌, refl, sym, ap, ◌∙◌}
-use mathlib.Core.Bool.{Bool, true, false, false≢true}
+use mathlib.Core.Bool.{Bool, true, false, not, false≢true}
 use mathlib.Core.List.{List}
+use Rattle.std.specs.Prelude.{Option}
 use Prim.Native.Nat.{ℕ, ◌+◌, ◌-◌, ◌<◌, ◌≤◌}
 use native.Mathlib.Nat.{sub-zero}
 use native.Mathlib.Omega.{arith}
 use lib.Dec.{eqb, leb}
 use lib.ListN.{get_or}
-use borrow.Author.Tests.{le-leb, lt-leb, ne_eqb, eqb-true, eqb-false}
+use mathlib.Core.Logic.{◌⊎◌, inl, inr, ⊎_elim}
+use borrow.Author.Tests.{le-leb, lt-leb, eq-eqb, ne_eqb, eqb-true, eqb-false}
 use Rattle.model.specs.Question.{◌and◌, ◌or◌, every}
 use Rattle.model.specs.Word.{kind_of, record_of, first_of, second_of}
 use Rattle.model.specs.Types.{Dep, dep_of, rename_dep, type_of, rename, Ty, any, ref, maybe, tagged, present, same, span}
 use Rattle.model.specs.Table.{Tables}
 use Rattle.model.specs.Values.{Values, birthplace, typed, constants_of, some, known_equal}
 use Rattle.model.specs.Reading.{known_tag, known_zero, is_ref, is_maybe, is_tagged, is_present, is_span, fits, row_fits, first_tag, reference_of}
-use Rattle.model.specs.declared.Reference.{Reference}
-use Rattle.model.specs.declared.Reference.TheVariants.{To, Nothing}
+use Rattle.std.specs.Prelude.{Option}
+use Rattle.std.specs.Prelude.{Some, None}
 use Rattle.model.proofs.Logic.{by_test, by_equality, either, or-true, or-of-true}
 use Rattle.known.specs.Numbers.{dep_at, sibling_of, named_of, serves_as_tag}
 use Rattle.known.proofs.Numbers.{or-false, dep-name, type-any, type-ref, type-maybe, type-tagged, type-present, type-same, type-span, by_kind}
@@ -32,13 +34,16 @@ module _ (vs : Values) (v k : ℕ) (ek : k ≡ kind_of (get_or vs.words v 0)) wh
   m = get_or vs.words v 0
 
   module _ (u : ℕ) (eu : u ≡ record_of m) where
-    pub refers-ref : k ≡ 1 → to_record u ≡ refers (typed vs v)
+    refers-ref : k ≡ 1 → to_record u ≡ refers (typed vs v)
     unfolding refers typed
     refers-ref h = rw (type-ref σ m (sym ek ∙ h), ← eu)
 
-    pub refers-in : k ≡ 8 → to_record u ≡ refers (typed vs v)
+    refers-in : k ≡ 8 → to_record u ≡ refers (typed vs v)
     unfolding refers typed
     refers-in h = rw (type-span σ m 2 (sym ek ∙ h), ← eu)
+
+    pub refers-record : (k ≡ 1) ⊎ (k ≡ 8) → to_record u ≡ refers (typed vs v)
+    refers-record h = ⊎_elim refers-ref refers-in h
 
     pub maybe_maybe : (𝒯 : Tables) (t : ℕ) → k ≡ 2 → eqb u t ≡ is_maybe 𝒯 vs t (typed vs v)
     unfolding is_maybe typed
@@ -59,11 +64,11 @@ module _ (vs : Values) (v k : ℕ) (ek : k ≡ kind_of (get_or vs.words v 0)) wh
         (λ q. rw (type-span σ m 2 (sym ek ∙ eqb-true k 8 q), ← eu) eb)
         (λ q. rw (type-maybe σ m (sym ek ∙ eqb-true k 2 q), ← eu) eb))
 
-  pub refers-other : (k ≡ 1 → ⊥) → (k ≡ 8 → ⊥) → (k ≡ 4 → ⊥) → by_nothing ≡ refers (typed vs v)
+  pub refers-other : ((k ≡ 1) ⊎ (k ≡ 8) → ⊥) → (k ≡ 4 → ⊥) → by_nothing ≡ refers (typed vs v)
   unfolding refers typed
-  refers-other n1 n8 n4 =
-      by_kind (kind_of m) (λ e. rw (type-any σ m e)) (λ e. absurd (n1 (ek ∙ e))) (λ e. rw (type-maybe σ m e)) (λ e. rw (type-tagged σ m e))
-      (λ e. absurd (n4 (ek ∙ e))) (λ e. rw (type-same σ m e)) (λ j e. rw (type-span σ m j e, ne_eqb j 2 (λ z. n8 (omega arith))))
+  refers-other n n4 =
+      by_kind (kind_of m) (λ e. rw (type-any σ m e)) (λ e. absurd (n (inl (ek ∙ e)))) (λ e. rw (type-maybe σ m e)) (λ e. rw (type-tagged σ m e))
+      (λ e. absurd (n4 (ek ∙ e))) (λ e. rw (type-same σ m e)) (λ j e. rw (type-span σ m j e, ne_eqb j 2 (λ z. n (inr (omega arith)))))
 
   pub maybe-other : (𝒯 : Tables) (t : ℕ) → (k ≡ 2 → ⊥) → (k ≡ 3 → ⊥) → false ≡ is_maybe 𝒯 vs t (typed vs v)
   unfolding is_maybe typed
@@ -115,10 +120,10 @@ module _ (𝒯 : Tables) (vs : Values) where
   ref_to t (by_tag d) = some (serves_as_tag false 𝒯 t) (constants_of vs d)
   ref_to t by_nothing = false
 
-  abbrev pub reference_by : Refers → Reference
-  reference_by (to_record u) = To u
+  abbrev pub reference_by : Refers → (Option ℕ)
+  reference_by (to_record u) = Some u
   reference_by (by_tag d) = first_tag 𝒯 (constants_of vs d)
-  reference_by by_nothing = Nothing
+  reference_by by_nothing = None
 
   ref-by : (t : ℕ) (ty : Ty) → ref_to t (refers ty) ≡ is_ref 𝒯 vs t ty
   unfolding refers is_ref known_tag ◌and◌
@@ -141,44 +146,48 @@ module _ (𝒯 : Tables) (vs : Values) where
   reference-by (span k t d e) = by_test (eqb k 2) (λ q. rw q) (λ q. rw q)
 
   -- r is what the code says of the type
-  module _ (ty : Ty) (r s : Referred) (is : r ≡ s) (e : refers_of r ≡ refers ty) where
+  module _ (ty : Ty) (r s : Option Referred) (is : r ≡ s) (e : refers_of r ≡ refers ty) where
     pub ref-told : (t : ℕ) (b : Bool) → b ≡ ref_to t (refers_of s) → b ≡ is_ref 𝒯 vs t ty
     ref-told t b eb = eb ∙ ap (λ x. ref_to t (refers_of x)) (sym is) ∙ ap (ref_to t) e ∙ ref-by t ty
 
-    pub reference-told : (a : Reference) → a ≡ reference_by (refers_of s) → a ≡ reference_of 𝒯 vs ty
+    pub reference-told : (a : (Option ℕ)) → a ≡ reference_by (refers_of s) → a ≡ reference_of 𝒯 vs ty
     reference-told a ea = ea ∙ ap (λ x. reference_by (refers_of x)) (sym is) ∙ ap reference_by e ∙ reference-by ty
 
 -- how a kind fits Tagged, and Present
 module _ (present : Bool) (k : ℕ) where
-  pub record-ref : k ≡ 1 → true ≡ by_record present k
+  record-ref : k ≡ 1 → true ≡ by_record present k
   unfolding by_record ◌or◌
   record-ref e = by_test present (λ q. rw (q, e)) (λ q. rw (q, e))
 
-  pub record-in : k ≡ 8 → true ≡ by_record present k
+  record-in : k ≡ 8 → true ≡ by_record present k
   unfolding by_record ◌or◌
   record-in e = by_test present (λ q. rw (q, e)) (λ q. rw (q, e))
+
+  pub record_is : (k ≡ 1) ⊎ (k ≡ 8) → true ≡ by_record present k
+  record_is h = ⊎_elim record-ref record-in h
+
+  pub record-maybe : k ≡ 2 → not present ≡ by_record present k
+  unfolding by_record ◌or◌
+  record-maybe e = by_test present (λ q. rw (q, e)) (λ q. rw (q, e))
+
+  pub record-none : ((k ≡ 1) ⊎ (k ≡ 8) → ⊥) → (k ≡ 2 → ⊥) → false ≡ by_record present k
+  unfolding by_record ◌or◌
+  record-none n n2 =
+      let e1 = ne_eqb k 1 (λ e. n (inl e)) in
+      let e8 = ne_eqb k 8 (λ e. n (inr e)) in
+      by_test present (λ q. rw (q, e1, e8)) (λ q. rw (q, e1, e8, ne_eqb k 2 n2))
 
   pub own-present : k ≡ 4 → true ≡ by_own_tag present k
   unfolding by_own_tag ◌or◌
   own-present e = by_test present (λ q. rw (q, e)) (λ q. rw (q, e))
 
-  module _ (p : present ≡ true) where
-    pub record-none : (k ≡ 1 → ⊥) → (k ≡ 8 → ⊥) → false ≡ by_record present k
-    unfolding by_record ◌or◌
-    record-none n1 n8 = rw (p, ne_eqb k 1 n1, ne_eqb k 8 n8)
+  pub own-tagged : k ≡ 3 → not present ≡ by_own_tag present k
+  unfolding by_own_tag ◌or◌
+  own-tagged e = by_test present (λ q. rw (q, e)) (λ q. rw (q, e))
 
-    pub own-none : (k ≡ 4 → ⊥) → false ≡ by_own_tag present k
-    unfolding by_own_tag ◌or◌
-    own-none n4 = rw (p, ne_eqb k 4 n4)
-
-  module _ (p : present ≡ false) where
-    pub record-maybe : (k ≡ 1 → ⊥) → (k ≡ 8 → ⊥) → eqb k 2 ≡ by_record present k
-    unfolding by_record ◌or◌
-    record-maybe n1 n8 = rw (p, ne_eqb k 1 n1, ne_eqb k 8 n8)
-
-    pub own-tagged : (k ≡ 4 → ⊥) → eqb k 3 ≡ by_own_tag present k
-    unfolding by_own_tag ◌or◌
-    own-tagged n4 = rw (p, ne_eqb k 4 n4)
+  pub own-none : (k ≡ 4 → ⊥) → (k ≡ 3 → ⊥) → false ≡ by_own_tag present k
+  unfolding by_own_tag ◌or◌
+  own-none n4 n3 = by_test present (λ q. rw (q, ne_eqb k 4 n4)) (λ q. rw (q, ne_eqb k 4 n4, ne_eqb k 3 n3))
 
 -- ---- the type wanted, by its kind
 
@@ -253,11 +262,10 @@ module _ (vs : Values) (v w : ℕ) (names : List ℕ) where
   abbrev pub seconds : Bool
   seconds = known_equal vs (sibling_of (get_or vs.frames (birthplace v) 0) (second_of (get_or vs.words v 0))) (named_of names (second_of w))
 
--- x and y are the dependencies with the bytes p and q
-pub known_of : (vs : Values) (names : List ℕ) (f f' x p p' y q q' : ℕ) → f ≡ f' → dep_at x ≡ sibling_of f p → p ≡ p'
-    → dep_at y ≡ named_of names q → q ≡ q'
-    → (b : Bool) → b ≡ known_equal vs (dep_at x) (dep_at y) → b ≡ known_equal vs (sibling_of f' p') (named_of names q')
-known_of vs names f f' x p p' y q q' ef ex ep ey eq b eb = rw (← ef, ← ep, ← eq, ← ex, ← ey) eb
+-- of the bytes p and q
+pub bound_is : (vs : Values) (names : List ℕ) (f p p' q q' : ℕ) → p ≡ p' → q ≡ q'
+    → (b : Bool) → b ≡ known_equal vs (sibling_of f p) (named_of names q) → b ≡ known_equal vs (sibling_of f p') (named_of names q')
+bound_is vs names f p p' q q' ep eq b eb = rw (← ep, ← eq) eb
 
 module _ (𝒯 : Tables) (vs : Values) (v w : ℕ) (names : List ℕ) (h : 6 ≤ kind_of w) where
   abbrev ρ : ℕ → ℕ
@@ -290,11 +298,31 @@ module _ (𝒯 : Tables) (vs : Values) (v w : ℕ) (names : List ℕ) (h : 6 ≤
       ∙ by_kind (kind_of n) (λ e. rw (type-any ρ n e)) (λ e. rw (type-ref ρ n e)) (λ e. rw (type-maybe ρ n e)) (λ e. rw (type-tagged ρ n e))
       (λ e. rw (type-present ρ n e)) (λ e. rw (type-same ρ n e)) (λ i e. rw (type-span ρ n i e, lt-leb j i (omega arith))))
 
-  pub span-ranked : kind_of w ≤ kind_of n → fit ≡ eqb (record_of n) (record_of w) and firsts vs v w names and seconds vs v w names
-  unfolding ◌and◌
-  span-ranked l =
-      of-spans (kind_of w - 6) (kind_of n - 6) (omega arith) (omega arith)
-      ∙ rw (le-leb (kind_of w - 6) (kind_of n - 6) (omega arith))
+  module _ (l : kind_of w ≤ kind_of n) where
+    span-ranked : fit ≡ eqb (record_of n) (record_of w) and firsts vs v w names and seconds vs v w names
+    unfolding ◌and◌
+    span-ranked =
+        of-spans (kind_of w - 6) (kind_of n - 6) (omega arith) (omega arith)
+        ∙ rw (le-leb (kind_of w - 6) (kind_of n - 6) (omega arith))
+
+    -- of the record types r and t
+    module _ (r t : ℕ) (er : r ≡ record_of n) (et : t ≡ record_of w) where
+      pub span-other : (r ≡ t → ⊥) → false ≡ fit
+      unfolding ◌and◌
+      span-other d = sym (span-ranked ∙ rw (← er, ← et, ne_eqb r t d))
+
+      module _ (e : r ≡ t) where
+        alike : fit ≡ firsts vs v w names and seconds vs v w names
+        unfolding ◌and◌
+        alike = span-ranked ∙ rw (← er, ← et, eq-eqb r t e)
+
+        pub span-first : (b : Bool) → b ≡ firsts vs v w names → b ≡ false → b ≡ fit
+        unfolding ◌and◌
+        span-first b eb q = q ∙ sym (alike ∙ rw (← eb, q))
+
+        pub span-both : (b : Bool) → b ≡ firsts vs v w names → b ≡ true → (c : Bool) → c ≡ seconds vs v w names → c ≡ fit
+        unfolding ◌and◌
+        span-both b eb q c ec = ec ∙ sym (alike ∙ rw (← eb, q))
 
 -- ---- rows
 

@@ -1,17 +1,24 @@
 -- What is asked of a value: whether it fits a type word, and what makes it a reference.
-use Rattle.std.specs.Prelude.{Bool, true, false, List, ℕ, eqb, get_or}
+use Rattle.std.specs.Prelude.{Option, Some, None, Bool, true, false, List, ℕ, eqb, get_or}
 use Rattle.model.specs.Question.{◌or◌, pick}
 use Rattle.model.specs.Types.{Dep, Ty, any, ref, maybe, tagged, present, same, span, type_of, rename}
-use Rattle.model.specs.Table.{Tables}
+use Rattle.model.specs.Table.{Tables, tables_of}
 use Rattle.model.specs.Values.{Values}
 use Rattle.model.specs.Reading.{is_tagged, is_present, fits}
-use Rattle.known.specs.Numbers.{dep_at}
+use Rattle.known.specs.Numbers.{dep_at, values_of, Paired}
+use Rattle.fits.specs.declared.Facts.{Facts}
 use Rattle.fits.specs.declared.Referred.{Referred}
-use Rattle.fits.specs.declared.Referred.TheVariants.{Record, Tag, Neither}
+use Rattle.fits.specs.declared.Referred.TheVariants.{Record, Tag}
 
 -- the type that w says, where the names stand for other values
 abbrev pub meant : List ℕ → ℕ → Ty
 meant names w = rename (λ i. get_or names i 0) (type_of w)
+
+-- said of the tables and the values that the facts tell of, past the test
+abbrev pub By : Facts → (Tables → Values → Type 0) → Type 0
+By facts said =
+    (types : List ℕ) (tested equal : ℕ) → Paired (values_of facts.values.now tested equal) facts.test
+    → said (tables_of types facts.tags.now) (values_of facts.values.now tested equal)
 
 -- ---- references
 
@@ -31,10 +38,13 @@ refers (same d) = by_nothing
 refers (span k t d e) = pick (eqb k 2) (to_record t) by_nothing
 
 -- the same as the code says it
-abbrev pub refers_of : Referred → Refers
-refers_of (Record t) = to_record t
-refers_of (Tag x) = by_tag (dep_at x)
-refers_of Neither = by_nothing
+abbrev pub refers_told : Referred → Refers
+refers_told (Record t) = to_record t
+refers_told (Tag x) = by_tag (dep_at x)
+
+abbrev pub refers_of : Option Referred → Refers
+refers_of (Some r) = refers_told r
+refers_of None = by_nothing
 
 -- ---- Tagged, and Present
 

@@ -1,44 +1,29 @@
 -- Where in a line a byte is read, and the bytes that part its words.
-use Rattle.std.specs.Prelude.{Bool, true, ℕ, eqb}
+use Rattle.std.specs.Prelude.{Bool, true, false, ℕ, eqb}
 use Rattle.model.specs.Question.{pick}
+use Rattle.grammar.specs.declared.Phase.{Phase}
+use Rattle.grammar.specs.declared.Phase.TheVariants.{Gap, Zero, Digits, Prefix, Hex, Comment, Malformed}
 
 -- ---- phases
 
--- nothing but blanks so far
-abbrev pub EMPTY : ℕ
-EMPTY = 0
+-- in a number
+abbrev pub in_number : Phase → Bool
+in_number Zero = true
+in_number Digits = true
+in_number Prefix = true
+in_number Hex = true
+in_number _ = false
 
--- in the request's name
-abbrev pub NAME : ℕ
-NAME = 1
+-- in the parts of a request: between numbers, or in one
+abbrev pub in_parts : Phase → Bool
+in_parts Gap = true
+in_parts p = in_number p
 
--- between numbers
-abbrev pub GAP : ℕ
-GAP = 2
-
--- in a number whose only digit is one 0: an x may follow
-abbrev pub ZERO : ℕ
-ZERO = 3
-
--- in a decimal number
-abbrev pub DIGITS : ℕ
-DIGITS = 4
-
--- after 0x: a digit must follow
-abbrev pub PREFIX : ℕ
-PREFIX = 5
-
--- in a hexadecimal number
-abbrev pub HEX : ℕ
-HEX = 6
-
--- a comment: the rest is passed over
-abbrev pub COMMENT : ℕ
-COMMENT = 7
-
--- malformed: the rest is passed over
-abbrev pub MALFORMED : ℕ
-MALFORMED = 8
+-- the rest of the line is passed over
+abbrev pub is_over : Phase → Bool
+is_over Comment = true
+is_over Malformed = true
+is_over _ = false
 
 -- ---- bytes
 

@@ -3,8 +3,6 @@
 
 use std::process::ExitCode;
 
-// The status is 0, 1, 2 or 3, and the lowest byte of it the code.
 fn main(rt: HostRuntime) -> ExitCode {
-    let status = console::ramdulsi_program(&rt, &rt.stderr());
-    ExitCode::from(status.to_le_bytes()[0])
+    ExitCode::from(console::ramdulsi_program(&rt, &rt.stderr()))
 }

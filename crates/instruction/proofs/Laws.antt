@@ -5,11 +5,14 @@ use Prim.Native.Nat.{ℕ, suc, ◌+◌, ◌/◌, ◌%◌, ◌<◌, ◌≤◌}
 use native.Mathlib.Omega.{arith}
 use lib.Dec.{ltb}
 use borrow.Author.Tests.{lt-ltb, le-ltb, ltb-true}
-use Rattle.model.specs.Question.{◌and◌, provided, Question, is_answer, q7, question_of, q8, q9}
+use Rattle.std.specs.Prelude.{Result}
+use Rattle.model.specs.Question.{◌and◌, provided, ok, refused}
+use Rattle.model.specs.declared.questions.Question.{Question}
+use Rattle.model.specs.declared.questions.Question.TheVariants.{Instruction as q7, BlockEnd as q8, Target as q9}
 use Rattle.model.specs.Word.{opcode_of, a_of, b_of, c_of}
 use Rattle.model.specs.Machine.{Plain, constant, copy, add, subtract, multiply, divide, move, load, store, End, halt, jump, if_equal, if_less}
 use Rattle.model.specs.Machine.{Instruction, plain, end, malformed, decode, has_form, well_formed, targets_exist, form_ask}
-use Rattle.model.proofs.Logic.{by_test, by_equality, by_less, and-true, answer-of, answer-none}
+use Rattle.model.proofs.Logic.{by_test, by_equality, by_less, and-true}
 use Rattle.instruction.proofs.Forms.{decode-0, decode-1, decode-2, decode-3, decode-4, decode-5, decode-6, decode-7, decode-8, decode-9}
 use Rattle.instruction.proofs.Forms.{decode-10, decode-11, decode-12, decoded}
 use Rattle.instruction.proofs.Parts.{known, registers, halt-c}
@@ -150,68 +153,74 @@ not-well (end x) e = absurd (false≢true (sym e))
 not-well malformed e = refl
 
 module _ (w : ℕ) (last : Bool) (b count : ℕ) where
-  pub form-malformed : well_formed w ≡ false → 7 ≡ form_no (decode w) last b count
+  pub form-malformed : well_formed w ≡ false → refused q7 ≡ form_no (decode w) last b count
   unfolding well_formed form_no form_ask
   form-malformed e = rw (not-well (decode w) e)
 
   module _ (q : well_formed w ≡ true) where
-    pub form-plain-last : 0 < opcode_of w → opcode_of w < 10 → last ≡ true → 8 ≡ form_no (decode w) last b count
+    pub form-plain-last : 0 < opcode_of w → opcode_of w < 10 → last ≡ true → refused q8 ≡ form_no (decode w) last b count
     unfolding form_no form_ask provided
     form-plain-last l h t = rw (decode-plain w q l h, t)
 
-    pub form-plain : 0 < opcode_of w → opcode_of w < 10 → last ≡ false → 0 ≡ form_no (decode w) last b count
+    pub form-plain : 0 < opcode_of w → opcode_of w < 10 → last ≡ false → ok tt ≡ form_no (decode w) last b count
     unfolding form_no form_ask provided
     form-plain l h t = rw (decode-plain w q l h, t)
 
     module _ (h : 0 < opcode_of w → 9 < opcode_of w) where
-      pub form-early : last ≡ false → 8 ≡ form_no (decode w) last b count
+      pub form-early : last ≡ false → refused q8 ≡ form_no (decode w) last b count
       unfolding form_no form_ask provided
       form-early t = rw (decode-end w q h, t)
 
-      pub form-nowhere : last ≡ true → targets_exist count b (end_of w) ≡ false → 9 ≡ form_no (decode w) last b count
+      pub form-nowhere : last ≡ true → targets_exist count b (end_of w) ≡ false → refused q9 ≡ form_no (decode w) last b count
       unfolding form_no form_ask provided
       form-nowhere t e = rw (decode-end w q h, t, e)
 
-      pub form-end : last ≡ true → targets_exist count b (end_of w) ≡ true → 0 ≡ form_no (decode w) last b count
+      pub form-end : last ≡ true → targets_exist count b (end_of w) ≡ true → ok tt ≡ form_no (decode w) last b count
       unfolding form_no form_ask provided
       form-end t e = rw (decode-end w q h, t, e)
 
-    pub form-halt : opcode_of w ≡ 0 → last ≡ true → 0 ≡ form_no (decode w) last b count
+    pub form-halt : opcode_of w ≡ 0 → last ≡ true → ok tt ≡ form_no (decode w) last b count
     unfolding targets_exist
     form-halt o t = form-end (λ l. absurd (omega arith)) t (rw (end-halt w o))
 
 -- what a word is where the form has no no
-module _ (w b count n : ℕ) (z : n ≡ 0) where
-  well-formed : (last : Bool) → n ≡ form_no (decode w) last b count → well_formed w ≡ true
-  well-formed last e = by_test (well_formed w) (λ q. q) (λ q. absurd (omega (arith, form-malformed w last b count q)))
+pub no_refusal : {q : Question} {o : Result (Unit {0}) Question} → ok tt ≡ o → refused q ≡ o → ⊥
+no_refusal e f = let z : ◌≡◌ {A = ℕ} 0 1 = cc in omega arith
 
-  pub inside-word : n ≡ form_no (decode w) false b count → Inside 1 w
+module _ (w b count : ℕ) where
+  well-formed : (last : Bool) → ok tt ≡ form_no (decode w) last b count → well_formed w ≡ true
+  well-formed last e = by_test (well_formed w) (λ q. q) (λ q. absurd (no_refusal e (form-malformed w last b count q)))
+
+  pub inside-word : ok tt ≡ form_no (decode w) false b count → Inside 1 w
   inside-word e =
       let q = well-formed false e in
       let (x, y) = registers w q in
       let early = form-early w false b count q in
       record {
         well = q;
-        from = by_equality (opcode_of w) 0 (λ o. absurd (omega (arith, early (λ l. absurd (omega arith)) refl))) (λ o. omega arith);
-        to = by_less (opcode_of w) 10 (λ o. omega arith) (λ o. absurd (omega (arith, early (λ l. omega arith) refl)));
+        from = by_equality (opcode_of w) 0 (λ o. absurd (no_refusal e (early (λ l. absurd (omega arith)) refl))) (λ o. omega arith);
+        to = by_less (opcode_of w) 10 (λ o. omega arith) (λ o. absurd (no_refusal e (early (λ l. omega arith) refl)));
         a_exists = x;
         b_exists = y;
       }
 
-  pub ending-word : n ≡ form_no (decode w) true b count → Ending b count w
+  pub ending-word : ok tt ≡ form_no (decode w) true b count → Ending b count w
   ending-word e =
       let q = well-formed true e in
       let (x, y) = registers w q in
       let ends : 0 < opcode_of w → 9 < opcode_of w =
-      λ l. by_less (opcode_of w) 10 (λ o. absurd (omega (arith, form-plain-last w true b count q l o refl))) (λ o. omega arith) in
+      λ l. by_less (opcode_of w) 10 (λ o. absurd (no_refusal e (form-plain-last w true b count q l o refl))) (λ o. omega arith) in
       record {
         well = q;
         ends = ends;
         known = known w q;
         a_exists = x;
         b_exists = y;
-        exist = by_test (targets_exist count b (end_of w)) (λ t. t) (λ t. absurd (omega (arith, form-nowhere w true b count q ends refl t)));
+        exist = by_test (targets_exist count b (end_of w)) (λ t. t) (λ t. absurd (no_refusal e (form-nowhere w true b count q ends refl t)));
       }
+
+pub same_no : {q r : Question} → ◌≡◌ {A = Result (Unit {0}) Question} (refused q) (refused r) → q ≡ r
+same_no e = cc
 
 -- inside a block it is of no account which block it is
 pub form-anywhere : (x : Instruction) (b count b' count' : ℕ) → form_no x false b count ≡ form_no x false b' count'
@@ -222,14 +231,15 @@ form-anywhere (end e) b count b' count' = refl
 
 -- what check and run go on with: the first no, the instruction inside a block, or the block's end
 module _ {A : Type 0} (refuse : Question → A) (count b : ℕ) (inside : Plain → A) (at_end : End → A) where
-  pub form-refuses : (last : Bool) (x : Instruction) (n : ℕ) → n ≡ form_no x last b count → (n ≡ 0 → ⊥)
-      → refuse (question_of n) ≡ form_ask refuse count b last inside at_end x
-  unfolding form_no form_ask provided question_of
-  form-refuses last malformed n e d = rw e
-  form-refuses true (plain y) n e d = rw e
-  form-refuses false (plain y) n e d = absurd (d e)
-  form-refuses false (end y) n e d = rw e
-  form-refuses true (end y) n e d = by_test (targets_exist count b y) (λ t. absurd (d (e ∙ rw t))) (λ t. rw (e, t))
+  pub form-refuses : (last : Bool) (x : Instruction) (q : Question) → refused q ≡ form_no x last b count
+      → refuse q ≡ form_ask refuse count b last inside at_end x
+  unfolding form_no form_ask provided
+  form-refuses last malformed q e = ap refuse (same_no e)
+  form-refuses true (plain y) q e = ap refuse (same_no e)
+  form-refuses false (plain y) q e = absurd (no_refusal (sym e) refl)
+  form-refuses false (end y) q e = ap refuse (same_no e)
+  form-refuses true (end y) q e =
+      by_test (targets_exist count b y) (λ t. absurd (no_refusal (sym (e ∙ rw t)) refl)) (λ t. rw t (ap refuse (same_no (e ∙ rw t))))
 
   pub form-inside : (w : ℕ) → Inside 1 w → inside (plain_of w) ≡ form_ask refuse count b false inside at_end (decode w)
   unfolding form_ask provided
@@ -238,11 +248,3 @@ module _ {A : Type 0} (refuse : Question → A) (count b : ℕ) (inside : Plain 
   pub form-ending : (w : ℕ) → Ending b count w → at_end (end_of w) ≡ form_ask refuse count b true inside at_end (decode w)
   unfolding form_ask provided
   form-ending w f = rw (decode-end w f.well f.ends, f.exist)
-
-pub form-answers : (x : Instruction) (last : Bool) (b count n : ℕ) → n ≡ form_no x last b count → is_answer n ≡ true
-unfolding form_no form_ask provided
-form-answers malformed last b count n e = answer-of n q7 e
-form-answers (plain x) true b count n e = answer-of n q8 e
-form-answers (plain x) false b count n e = answer-none n e
-form-answers (end x) true b count n e = by_test (targets_exist count b x) (λ q. answer-none n (e ∙ rw q)) (λ q. answer-of n q9 (e ∙ rw q))
-form-answers (end x) false b count n e = answer-of n q8 e

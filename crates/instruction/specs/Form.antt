@@ -1,13 +1,14 @@
--- The form of an instruction word as the code asks it: the first no of Q7, Q8 and Q9 as a number, and the instruction that a word is.
-use Rattle.std.specs.Prelude.{◌≡◌, Bool, true, false, [], ◌∷◌, ℕ, ◌-◌, ◌/◌, ◌%◌, ◌≤◌, ◌<◌, eqb, get_or}
-use Rattle.model.specs.Question.{pick, number_of}
+-- The form of an instruction word as the code asks it: the first no of Q7, Q8 and Q9, and the instruction that a word is.
+use Rattle.std.specs.Prelude.{◌≡◌, Bool, true, false, Result, [], ◌∷◌, ℕ, ◌-◌, ◌/◌, ◌%◌, ◌≤◌, ◌<◌, eqb, get_or}
+use Rattle.model.specs.Question.{pick, ok, refused}
+use Rattle.model.specs.declared.questions.Question.{Question}
 use Rattle.model.specs.Word.{opcode_of, a_of, b_of, c_of}
 use Rattle.model.specs.Machine.{Plain, constant, copy, add, subtract, multiply, divide, move, load, store, End, halt, jump, if_equal, if_less}
 use Rattle.model.specs.Machine.{Instruction, well_formed, targets_exist, form_ask}
 
--- the number of the first no at an instruction of block b of count blocks, the block's last or not; 0 where there is none
-unfoldable pub form_no : Instruction → Bool → ℕ → ℕ → ℕ
-form_no x last b count = form_ask number_of count b last (λ _. 0) (λ _. 0) x
+-- the first no at an instruction of block b of count blocks, the block's last or not, if there is one
+unfoldable pub form_no : Instruction → Bool → ℕ → ℕ → Result (Unit {0}) Question
+form_no x last b count = form_ask refused count b last (λ _. ok tt) (λ _. ok tt) x
 
 -- a well-formed word with opcode 1 to 9
 unfoldable pub plain_of : ℕ → Plain

@@ -7,9 +7,10 @@ ghost use Rattle.model.specs.Machine.{decode, well_formed, targets_exist};
 ghost use Rattle.instruction.specs.Rows.{opcode_rows, formed_by_words};
 ghost use Rattle.instruction.specs.Form.{form_no, end_of, target_of};
 
-use model::number;
+use model::Question;
 
-// The opcodes, told apart by these names in the check and in a run.
+// The opcodes, told apart by these names in the check and in a run. They stay numbers: before Q7 a word may have any of 256, and a run
+// asks the rows below by the number itself.
 pub const HALT: u32 = 0;
 
 pub const CONSTANT: u32 = 1;
@@ -130,32 +131,38 @@ pub fn target(w: u32) -> u32
     c
 }
 
-// The first no of Q7, Q8 and Q9 at an instruction of block b, as a number; last: it is the block's last.
-pub fn form(rows: &[[u32; 2]; OPCODES], w: u32, last: bool, b: u32, count: u32) -> u32
+// The first no of Q7, Q8 and Q9 at an instruction of block b; last: it is the block's last.
+pub fn form(
+    rows: &[[u32; 2]; OPCODES],
+    w: u32,
+    last: bool,
+    b: u32,
+    count: u32,
+) -> Result<(), Question>
     requires { (rows.now ≡ opcode_rows) × (b < 4294967295) }
     ensures { result ≡ form_no (decode w) last b count }
 {
     if !well_formed(rows, w) {
-        return number::INSTRUCTION;
+        return Err(Question::Instruction);
     }
     let op = w / 16777216;
     if op == HALT {
         if last {
-            return number::PASSED;
+            return Ok(());
         }
-        return number::BLOCK_END;
+        return Err(Question::BlockEnd);
     }
     if op < JUMP {
         if last {
-            return number::BLOCK_END;
+            return Err(Question::BlockEnd);
         }
-        return number::PASSED;
+        return Ok(());
     }
     if !last {
-        return number::BLOCK_END;
+        return Err(Question::BlockEnd);
     }
     if !targets_exist(w, b, count) {
-        return number::TARGET;
+        return Err(Question::Target);
     }
-    number::PASSED
+    Ok(())
 }

@@ -14,10 +14,11 @@ use Rattle.model.specs.Table.{Tables, tables_of}
 use Rattle.model.specs.Values.{Values, birthplace, typed, constant_held, some, root_of, same_held, held_at, chain_constant, one_constant, alike}
 use Rattle.model.specs.Values.{constants_joined, equal_joined, constants_of, known_equal}
 use Rattle.model.specs.Reading.{tag_of, beyond, known_zero, first_tag}
-use Rattle.model.specs.declared.Reference.{Reference}
-use Rattle.model.specs.declared.Reference.TheVariants.{To, Nothing}
+use Rattle.std.specs.Prelude.{Option}
+use Rattle.std.specs.Prelude.{Some, None}
 use Rattle.model.proofs.Logic.{by_test, by_equality, or-of-true, true-and}
 use Rattle.model.proofs.Joined.{dep-same, told-nothing}
+use Rattle.known.specs.declared.Values.{Values as Held}
 use Rattle.known.specs.Numbers.{values_of, dep_at, stand, Paired, partner_of, serves_as_tag}
 use Rattle.known.proofs.Numbers.{dep-name, dep-constant, or-false, held-is, held-name, held-constant, some-constant}
 use Rattle.known.proofs.Numbers.{type-any, type-ref, type-maybe, type-tagged, type-present, type-same, type-span, by_kind}
@@ -59,9 +60,9 @@ constant-root vs x ex k ek = rw (← ex) ek
 
 -- ---- known equal
 
-module _ (words frames constants : List ℕ) (tested equal x y : ℕ) where
+module _ (held : Held) (tested equal x y : ℕ) where
   abbrev vs : Values
-  vs = values_of words frames constants tested equal
+  vs = values_of held tested equal
 
   abbrev equal-xy : Bool
   equal-xy = known_equal vs (dep_at x) (dep_at y)
@@ -132,9 +133,9 @@ module _ (types tags : List ℕ) (past : Bool) (r t : ℕ) where
         (λ q. rw (q, lt-ltb (r - 256) (length tags) l)))
 
 -- r stands for x: whether some known constant of x passes a test
-module _ (words frames constants : List ℕ) (tested equal x : ℕ) (f : ℕ → Bool) where
+module _ (held : Held) (tested equal x : ℕ) (f : ℕ → Bool) where
   abbrev us : Values
-  us = values_of words frames constants tested equal
+  us = values_of held tested equal
 
   abbrev passing : Bool
   passing = some f (constants_of us (dep_at x))
@@ -162,26 +163,26 @@ zero_held r =
 -- ---- the type that a tag names
 
 -- nothing was tested, and r stands for x
-module _ (types tags words frames constants : List ℕ) (x r : ℕ) (er : dep_at r ≡ stand (values_of words frames constants 0 0) (dep_at x)) where
+module _ (types tags : List ℕ) (held : Held) (x r : ℕ) (er : dep_at r ≡ stand (values_of held 0 0) (dep_at x)) where
   abbrev untested : Values
-  untested = values_of words frames constants 0 0
+  untested = values_of held 0 0
 
-  abbrev named : Reference
+  abbrev named : (Option ℕ)
   named = first_tag (tables_of types tags) (constants_of untested (dep_at x))
 
   alone : constants_of untested (dep_at x) ≡ constant_held (r - 255) ++ []
   unfolding constants_of constants_joined
   alone = rw (constant_by untested (dep_at x) r er, told-nothing untested (dep_at x) refl)
 
-  pub type-none : r < 256 → Nothing ≡ named
+  pub type-none : r < 256 → None ≡ named
   unfolding first_tag
   type-none h = rw (alone, held-name r h)
 
   module _ (h : 256 ≤ r) where
-    pub type-past : length tags ≤ r - 256 → Nothing ≡ named
+    pub type-past : length tags ≤ r - 256 → None ≡ named
     unfolding first_tag tables_of
     type-past l = rw (alone, held-constant r h, le-ltb (r - 256) (length tags) l)
 
-    pub type-of-tag : r - 256 < length tags → To (get_or tags (r - 256) 0) ≡ named
+    pub type-of-tag : r - 256 < length tags → Some (get_or tags (r - 256) 0) ≡ named
     unfolding first_tag tables_of
     type-of-tag l = rw (alone, held-constant r h, lt-ltb (r - 256) (length tags) l)

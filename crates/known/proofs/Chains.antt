@@ -1,7 +1,7 @@
 -- Chains of Same as the code follows them: a step, the steps that are left, and the root of a dependency.
 use mathlib.Core.Path.{◌≡◌, sym, ◌∙◌}
 use mathlib.Core.Bool.{true}
-use Prim.Native.Nat.{ℕ, suc, ◌+◌, ◌-◌, ◌/◌, ◌<◌, ◌≤◌}
+use Prim.Native.Nat.{ℕ, suc, ◌+◌, ◌-◌, ◌/◌, ◌<◌, ◌≤◌, min}
 use native.Mathlib.Omega.{arith}
 use lib.Dec.{ltb}
 use lib.ListN.{get_or}
@@ -10,7 +10,7 @@ use Rattle.model.specs.Question.{pick}
 use Rattle.model.specs.Word.{kind_of, first_of}
 use Rattle.model.specs.Types.{name, same}
 use Rattle.model.specs.Values.{Values, birthplace, typed, lead_by, lead, along, least_along, root, root_of, alike}
-use Rattle.model.proofs.Logic.{true-or}
+use Rattle.model.proofs.Logic.{by_less, true-or}
 use Rattle.model.proofs.Roots.{along-still, root-still, root-lead}
 use Rattle.model.proofs.Joined.{dep-same}
 use Rattle.known.specs.Numbers.{dep_at}
@@ -66,11 +66,14 @@ module _ (vs : Values) (n i x w : ℕ) (h : i < n) (ew : w ≡ lead vs x) where
     unfolding least_along
     least-next = rw (left, ew)
 
-    pub least-lower : w < m → (l : ℕ) → l ≡ w → least_along vs (n - (i + 1)) l w ≡ least_along vs (n - i) m x
+    least-lower : w < m → (l : ℕ) → l ≡ w → least_along vs (n - (i + 1)) l w ≡ least_along vs (n - i) m x
     least-lower q l e = rw e (sym (least-next ∙ rw (lt-ltb w m q)))
 
-    pub least_kept : m ≤ w → (l : ℕ) → l ≡ m → least_along vs (n - (i + 1)) l w ≡ least_along vs (n - i) m x
+    least_kept : m ≤ w → (l : ℕ) → l ≡ m → least_along vs (n - (i + 1)) l w ≡ least_along vs (n - i) m x
     least_kept q l e = rw e (sym (least-next ∙ rw (le-ltb w m q)))
+
+    pub least_on : (l : ℕ) → l ≡ min m w → least_along vs (n - (i + 1)) l w ≡ least_along vs (n - i) m x
+    least_on l e = by_less w m (λ h. least-lower h l (omega arith)) (λ h. least_kept h l (omega arith))
 
 pub least-done : (vs : Values) (n : ℕ) → n ≡ 0 → (m x : ℕ) → m ≡ least_along vs n m x
 unfolding least_along

@@ -1,4 +1,4 @@
--- The values of a reading as arrays of numbers hold them: frames as birthplaces, a dependency as one number, a known constant c as
+-- The values of a reading as the struct holds them, by numbers: frames as birthplaces, a dependency as one number, a known constant c as
 -- c + 1.
 use Rattle.std.specs.Prelude.{◌≡◌, Bool, true, false, List, map, ℕ, zero, suc, ◌+◌, ◌-◌, ◌*◌, ◌/◌, ◌%◌, ◌<◌, ltb, eqb, get_or}
 use Rattle.std.specs.Borrow.{Bor}
@@ -8,6 +8,7 @@ use Rattle.model.specs.Types.{Dep, name, con, dep_of, rename_dep}
 use Rattle.model.specs.Table.{Tables, tables_of}
 use Rattle.model.specs.Values.{Values, joined, root_of, chain_constant}
 use Rattle.model.specs.Reading.{tag_of, beyond}
+use Rattle.known.specs.declared.Values.{Values as Held}
 
 -- A frame is held as the birthplace of its eight names. There are 32 birthplaces, so that every name is below 256.
 abbrev pub frame_of : ℕ → ℕ
@@ -16,21 +17,24 @@ frame_of g = 8 * (g % 32)
 unfoldable pub frames_of : List ℕ → List ℕ
 frames_of l = map frame_of l
 
-abbrev pub values_of : List ℕ → List ℕ → List ℕ → ℕ → ℕ → Values
-values_of words frames constants tested equal =
-    record { words = words; frames = frames_of frames; constants = constants; tested = tested; equal = equal; knowledge = joined }
+abbrev pub values_of : Held → ℕ → ℕ → Values
+values_of held tested equal =
+    record {
+      words = held.words;
+      frames = frames_of held.frames;
+      constants = held.constants;
+      tested = tested;
+      equal = equal;
+      knowledge = joined;
+    }
 
--- an array or a table that a function is lent, at its entry and at its exit
+-- a table that a function is lent, at its entry and at its exit
 abbrev pub Lent : Type 0
 Lent = Both (Bor (List ℕ)) (Bor (List ℕ))
 
--- the tables with the tags that are lent, and the values that the lent arrays make
+-- the tables with the tags that are lent
 abbrev pub tables_in : List ℕ → Lent → Tables
 tables_in types tags = tables_of types tags.entry.now
-
-abbrev pub values_in : Lent → Lent → Lent → ℕ → ℕ → Values
-values_in words frames constants tested equal =
-    values_of words.entry.now frames.entry.now constants.entry.now tested equal
 
 -- a number below 256 is a name, and 256 + c the constant c
 unfoldable pub dep_at : ℕ → Dep
@@ -61,10 +65,9 @@ abbrev pub Paired : Values → ℕ → Type 0
 Paired vs test =
     (vs.equal ≡ 0 → test ≡ 0) × (0 < vs.equal → (dep_at (test / 512) ≡ stand vs (name vs.tested)) × (test % 512 ≡ vs.equal + 255))
 
--- said of the values that the lent arrays make, past the test that the number tells
-abbrev pub Past : Lent → Lent → Lent → ℕ → (Values → Type 0) → Type 0
-Past words frames constants test said =
-    (tested equal : ℕ) → Paired (values_in words frames constants tested equal) test → said (values_in words frames constants tested equal)
+-- said of the values that are held, past the test that the number tells
+abbrev pub Past : Held → ℕ → (Values → Type 0) → Type 0
+Past held test said = (tested equal : ℕ) → Paired (values_of held tested equal) test → said (values_of held tested equal)
 
 -- the one of two for the other, and r for any other
 abbrev pub partner_in : ℕ → ℕ → ℕ → ℕ

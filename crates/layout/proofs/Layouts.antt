@@ -1,4 +1,4 @@
--- One law for each answer to Q19, and the questions before Q20 in their order.
+-- One law for each answer to Q19.
 use mathlib.Core.Path.{◌≡◌, refl, ap, ◌∙◌}
 use mathlib.Core.Bool.{true, false}
 use mathlib.Core.List.{List, ◌∷◌}
@@ -9,12 +9,11 @@ use lib.ListN.{length, get_or, drop, drop_of_length-le}
 use lib.Seq.{drop-cons}
 use lib.Dec.{leb}
 use borrow.Author.Tests.{lt-ltb, le-ltb, le-leb, lt-leb, eq-eqb, ne_eqb, ltb-true}
-use Rattle.model.specs.Question.{◌and◌, q19, refusal, passed, refusing, verdict_of, provided}
+use Rattle.model.specs.Question.{refusal, ok, refused, provided}
+use Rattle.model.specs.declared.questions.Question.TheVariants.{Allocation as q19}
 use Rattle.model.specs.Table.{rows, head_of, tables_of}
-use Rattle.model.specs.Allocation.{laid, rows_ask, allocations_ask}
-use Rattle.model.specs.MemoryCheck.{layout_ask, layout_questions}
+use Rattle.model.specs.Allocation.{laid, rows_ask}
 use Rattle.model.proofs.Logic.{and-true}
-use Rattle.table.proofs.Questions.{ComesTo}
 
 -- ---- row k of the allocations
 
@@ -35,18 +34,6 @@ rows-from {allocations} {k} R =
 -- ---- Q19 of one row
 
 module _ (types tags : List ℕ) (top low p t : ℕ) where
-  pub laid-type : rows types ≤ t → false ≡ laid (tables_of types tags) top low p t
-  unfolding laid tables_of ◌and◌
-  laid-type h = rw (le-ltb t (rows types) h)
-
-  pub laid-low : t < rows types → p < low → false ≡ laid (tables_of types tags) top low p t
-  unfolding laid tables_of ◌and◌
-  laid-low h l = rw (lt-ltb t (rows types) h, lt-leb low p l)
-
-  pub laid_end : t < rows types → low ≤ p → (n : ℕ) → n ≡ head_of types t → leb (p + n) top ≡ laid (tables_of types tags) top low p t
-  unfolding laid tables_of ◌and◌
-  laid_end h l n e = rw (lt-ltb t (rows types) h, le-leb low p l, ← e)
-
   -- the type of a row that is laid
   pub laid-exists : laid (tables_of types tags) top low p t ≡ true → t < rows types
   unfolding laid tables_of
@@ -74,38 +61,10 @@ module _ {types allocations : List ℕ} {top k low : ℕ} (L : AllocationsLeft t
     row_laid n e y = record { rest = λ tags. row-rest tags ∙ rw (y tags, e, add-one k); within = omega (arith, R.whole) }
 
     pub row-not-laid : (tags : List ℕ) → laid (tables_of types tags) top low p t ≡ false
-        → refusing (refusal q19 k 0) ≡ verdict_of (rows_ask (tables_of types tags) top allocations 0 1)
-    unfolding rows_ask provided verdict_of
+        → refused (refusal q19 k 0) ≡ rows_ask (tables_of types tags) top allocations 0 1
+    unfolding rows_ask provided
     row-not-laid tags y = rw (row-rest tags, y)
 
-  pub allocations-end : (tags : List ℕ) → length allocations ≤ k * 2 → passed ≡ verdict_of (rows_ask (tables_of types tags) top allocations 0 1)
-  unfolding rows_ask verdict_of
+  pub allocations-end : (tags : List ℕ) → length allocations ≤ k * 2 → ok tt ≡ rows_ask (tables_of types tags) top allocations 0 1
+  unfolding rows_ask
   allocations-end tags h = rw (L.rest tags, drop_of_length-le allocations h)
-
--- ---- Q19
-
-module _ (types tags allocations : List ℕ) (top : ℕ) where
-  pub allocations-odd : (length allocations % 2 ≡ 0 → ⊥) → refusing (refusal q19 0 0) ≡ verdict_of (allocations_ask (tables_of types tags) top allocations)
-  unfolding allocations_ask provided verdict_of ◌and◌
-  allocations-odd h = rw (ne_eqb (length allocations % 2) 0 h)
-
-  pub allocations-many : length allocations % 2 ≡ 0 → 8192 < length allocations
-      → refusing (refusal q19 0 0) ≡ verdict_of (allocations_ask (tables_of types tags) top allocations)
-  unfolding allocations_ask provided verdict_of ◌and◌
-  allocations-many h l = rw (eq-eqb (length allocations % 2) 0 h, lt-leb (length allocations) 8192 l)
-
-  pub allocations-rows : length allocations % 2 ≡ 0 → length allocations ≤ 8192
-      → verdict_of (rows_ask (tables_of types tags) top allocations 0 1) ≡ verdict_of (allocations_ask (tables_of types tags) top allocations)
-  unfolding allocations_ask provided ◌and◌
-  allocations-rows h l = rw (eq-eqb (length allocations % 2) 0 h, le-leb (length allocations) 8192 l)
-
--- ---- Q1 to Q4, Q17 and Q19, in order
-
-module _ (types tags allocations : List ℕ) (top : ℕ) where
-  -- past k questions, those left come to what all come to
-  abbrev pub LayoutPast : ℕ → Type 0
-  LayoutPast k = ComesTo (verdict_of (layout_ask types tags allocations top)) (drop k (layout_questions types tags allocations top))
-
-  pub layout-begins : LayoutPast 0
-  unfolding layout_ask
-  layout-begins = record { asked = refl }

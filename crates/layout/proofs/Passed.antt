@@ -10,7 +10,7 @@ use Rattle.model.specs.Question.{ok}
 use Rattle.model.specs.Table.{rows, head_of, words_of, tables_of, type_lengths_ask, types_ask, well_made, memory_length_ask}
 use Rattle.model.specs.Allocation.{is_allocated, rows_ask, allocations_ask}
 use Rattle.model.specs.MemoryCheck.{layout_ask, layout_questions}
-use Rattle.model.proofs.Logic.{and-true, true-and, true-or, or-of-true, ask-ok, all-passed, ok-verdict}
+use Rattle.model.proofs.Logic.{and-true, true-and, true-or, or-of-true, ask-ok, all-passed}
 use Rattle.model.proofs.TableLaws.{rows-laid, memory-length}
 use Rattle.layout.proofs.Layouts.{RowAt}
 use Rattle.table.proofs.Laws.{type-lengths-passed, size-bounds, field-well-made}
@@ -52,7 +52,7 @@ module _ (types tags allocations : List ℕ) (top : ℕ) (q : layout_ask types t
       record { lengths = lengths; made = made; memory = memory; even = eqb-true _ 0 even; most = leb-true _ _ most; laid = laid }
 
   pub layout-types : length types ≤ 576
-  layout-types = (type-lengths-passed (length types) (length tags) _ refl (ok-verdict _ layout-parts.lengths)).most
+  layout-types = (type-lengths-passed (length types) (length tags) layout-parts.lengths).most
 
   pub layout-memory : top ≤ 16384
   layout-memory = (memory-length top layout-parts.memory).1
@@ -67,7 +67,7 @@ module _ (types tags allocations : List ℕ) (top : ℕ) (q : layout_ask types t
   layout-rows = layout-parts.most
 
   pub layout-sizes : (t : ℕ) → t < rows types → (1 ≤ head_of types t) × (head_of types t ≤ 8)
-  layout-sizes t h = size-bounds types tags _ refl (ok-verdict _ layout-parts.made) t h
+  layout-sizes t h = size-bounds types tags layout-parts.made t h
 
   pub layout_row : {k p t : ℕ} → RowAt allocations k p t → InPlace types top p t
   unfolding tables_of
@@ -78,4 +78,4 @@ module _ (types tags allocations : List ℕ) (top : ℕ) (q : layout_ask types t
 
   pub layout-well : (t n : ℕ) → t < rows types → n ≡ head_of types t → (i : ℕ) → i < n → well_made (rows types) n (get_or (words_of types t) i 0) ≡ true
   layout-well t n h e i l =
-      rw e (field-well-made types tags _ refl (ok-verdict _ layout-parts.made) t i h (omega (arith, layout-sizes t h)) (omega arith))
+      rw e (field-well-made types tags layout-parts.made t i h (omega (arith, layout-sizes t h)) (omega arith))

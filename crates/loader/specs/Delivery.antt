@@ -5,7 +5,9 @@ use Rattle.model.specs.declared.Verdict.{Verdict}
 use Rattle.model.specs.declared.CheckAnswer.{CheckAnswer}
 use Rattle.model.specs.declared.OfferedAnswer.{OfferedAnswer}
 use Rattle.model.specs.declared.RunAnswer.{RunAnswer}
-use Rattle.model.specs.Question.{◌or◌, Question, number_of, Refusal, refusing, FirstRefused}
+use Rattle.model.specs.Question.{◌or◌, number_of, refusing, FirstRefused}
+use Rattle.model.specs.declared.questions.Question.{Question}
+use Rattle.model.specs.declared.questions.Refusal.{Refusal}
 use Rattle.model.specs.Table.{Code, code_of, Routine, routine_of}
 use Rattle.model.specs.Machine.{State, index_of, step, halts, faults, run_questions, run, returned, Ready, ready}
 use Rattle.model.specs.Cost.{asked_of, verdict_in, check_answer, Cost}

@@ -1,5 +1,5 @@
 // The six public calls, each with its whole contract and no requirement: check, check with offered rows, filling, memory check, entry check
-// and run.
+// and run. README names them, so each keeps a parameter for each table, and answers by the specification's numbers.
 // specs/Delivery.antt states demand 3 of them, with relations that proofs/Contracts.antt shows to be these contracts; proofs/Delivered.antt
 // proves it.
 #![tactic(auto)]

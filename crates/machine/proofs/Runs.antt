@@ -2,61 +2,35 @@
 use mathlib.Core.Path.{◌≡◌, refl, sym, ap, ◌∙◌}
 use mathlib.Core.Logic.{◌⊎◌, inl, inr}
 use mathlib.Core.List.{List}
-use Prim.Native.Nat.{ℕ, zero, suc, ◌+◌, ◌-◌, ◌<◌, ◌≤◌}
+use Prim.Native.Nat.{ℕ, suc, ◌+◌, ◌-◌, ◌<◌, ◌≤◌}
 use native.Mathlib.Nat.{zero-add, add-zero, sub-eq-zero_of_le}
 use native.Mathlib.Numerals.{add-one}
 use native.Mathlib.Omega.{arith}
 use lib.ListN.{length, take, drop, length-take, length-drop}
-use Rattle.model.specs.declared.Verdict.{Verdict}
-use Rattle.model.specs.Question.{Question, number_of, question_of, q1, Outcome, ok, refused, verdict_of}
+use Rattle.std.specs.Prelude.{Result, Ok, Err}
+use Rattle.model.specs.Question.{number_of, Outcome, ok, refused}
+use Rattle.model.specs.declared.questions.Question.{Question}
 use Rattle.model.specs.Table.{Routine, routine_of, start_of, head_of, rows, lengths_ask, Code}
-use Rattle.model.specs.Machine.{entering, State, Step, goes, halts, faults, step, Ran, halted, paused, faulted, onward, finish, steps, run_blocks, Run}
-use Rattle.model.specs.Machine.{answer_of, run_ask, opened, run, Ready, run_questions}
-use Rattle.model.proofs.Logic.{number-unless}
+use Rattle.model.specs.Machine.{entering, State, goes, Ran, halted, paused, faulted, finish, steps, run_blocks, Run}
+use Rattle.model.specs.Machine.{answer_of, run_ask, opened, run, Ready}
 use Rattle.model.proofs.TableLaws.{sized}
-use Rattle.model.proofs.MachineLaws.{goes-faults, OfCode, of-7, of-8, of-9, of-18, fault-asks, visited-here, steps-visited}
+use Rattle.model.proofs.MachineLaws.{visited-here, steps-visited}
 use Rattle.model.proofs.MachineLaws.{later, later_ran, blocks-later}
-use Rattle.table.proofs.Questions.{left, no-refusal, ComesTo}
+use Rattle.model.specs.declared.questions.Refusal.{Refusal}
+use Rattle.table.proofs.Questions.{left}
 use Rattle.table.proofs.Laws.{start-more}
 use Rattle.step.specs.declared.Exit.{Exit}
-use Rattle.step.specs.declared.Exit.TheVariants.{To, Following, Halted, No}
+use Rattle.step.specs.declared.Exit.TheVariants.{To, Following, Halted}
 use Rattle.step.specs.Answer.{at, exit_of}
 use Rattle.machine.specs.Run.{Covers, ran_of}
-
--- ---- the questions that instructions are asked
-
--- no no of Q1
-NoFirst : Step → Type 0
-NoFirst x = (s : State) → x ≡ faults q1 s → ⊥
-
-not_first : {q : Question} → OfCode q → number_of q ≡ 1 → ⊥
-not_first of-7 e = omega arith
-not_first of-8 e = omega arith
-not_first of-9 e = omega arith
-not_first of-18 e = omega arith
-
-module _ (P : Routine) where
-  step-asks : (s : State) → NoFirst (step P s)
-  unfolding NoFirst
-  step-asks s = λ t e. not_first (fault-asks P s t q1 e) refl
-
-  steps-ask : (n : ℕ) (s : State) → NoFirst (steps P n s)
-  unfolding steps onward NoFirst
-  steps-ask zero s = λ t e. goes-faults e
-  steps-ask (suc n) s = go (step P s) (step-asks s) (λ s'. steps-ask n s')
-    where
-      go : (x : Step) → NoFirst x → ((s' : State) → NoFirst (steps P n s')) → NoFirst (onward x (λ s'. steps P n s'))
-      go (goes s') f g = g s'
-      go (halts s') f g = f
-      go (faults q s') f g = f
 
 -- ---- where a block's end leads
 
 -- the exit of block b goes to block t
-abbrev pub GoesTo : Exit → ℕ → ℕ → Type 0
-GoesTo x b t = (x ≡ To t) ⊎ ((x ≡ Following) × (t ≡ b + 1))
+abbrev pub GoesTo : Result Exit Question → ℕ → ℕ → Type 0
+GoesTo x b t = (x ≡ Ok (To t)) ⊎ ((x ≡ Ok Following) × (t ≡ b + 1))
 
-enters : (x : Exit) (s : State) (t : ℕ) → GoesTo x s.block t → exit_of x s ≡ goes (entering s t)
+enters : (x : Result Exit Question) (s : State) (t : ℕ) → GoesTo x s.block t → exit_of x s ≡ goes (entering s t)
 unfolding exit_of
 enters x s t (inl e) = rw e
 enters x s t (inr (e, n)) = rw (e, n, add-one s.block)
@@ -79,7 +53,7 @@ module _ (C : Code) (q : lengths_ask C.blocks (length C.code) ≡ ok tt) where
 
   -- a block's end leads to a block of the table
   pub leads-on : (n b j f c c' : ℕ) (r m r' m' : List ℕ) → b < rows C.blocks
-      → (x : Exit) → exit_of x (at b j r' m' f c') ≡ steps (routine_of C) n (at b 0 r m f c) → (t : ℕ) → GoesTo x b t → t < rows C.blocks
+      → (x : Result Exit Question) → exit_of x (at b j r' m' f c') ≡ steps (routine_of C) n (at b 0 r m f c) → (t : ℕ) → GoesTo x b t → t < rows C.blocks
   unfolding routine_of
   leads-on n b j f c c' r m r' m' h x e t z =
       let S = sized C q in
@@ -113,7 +87,7 @@ module _ (P : Routine) where
       rw e (ap (λ (x : Ran). uncounted (answer_of P x)) (blocks-later P 0 n k (at b 0 r m f 0)) ∙ later_same n (run_blocks P k (at b 0 r m f 0)))
 
   -- one block of what is left of the budget
-  module _ (budget f b j n : ℕ) (r m r' m' : List ℕ) (h : f < budget) (x : Exit) (e : exit_of x (at b j r' m' f n) ≡ steps P (P.long b) (at b 0 r m f 0)) where
+  module _ (budget f b j n : ℕ) (r m r' m' : List ℕ) (h : f < budget) (x : Result Exit Question) (e : exit_of x (at b j r' m' f n) ≡ steps P (P.long b) (at b 0 r m f 0)) where
     block_more : rest (budget - f) b r m f ≡ uncounted (answer_of P (finish (exit_of x (at b j r' m' f n)) (λ s. run_blocks P (budget - (f + 1)) s)))
     unfolding run_blocks
     block_more = rw (left budget f h, ← e)
@@ -122,43 +96,29 @@ module _ (P : Routine) where
     unfolding finish
     run_on t z = block_more ∙ rw (enters x (at b j r' m' f n) t z, add-one f) (carried-free (budget - suc f) t (suc f) (suc n) r' m')
 
-    pub run-halts : (i : ℕ) → i ≡ P.start b + j → x ≡ Halted → ran 0 b i (f + 1) r' m' ≡ rest (budget - f) b r m f
+    pub run-halts : (i : ℕ) → i ≡ P.start b + j → x ≡ Ok Halted → ran 0 b i (f + 1) r' m' ≡ rest (budget - f) b r m f
     unfolding finish exit_of answer_of
     run-halts i ei z = sym (block_more ∙ rw (z, ei, add-one f))
 
-    pub run-faults : (i : ℕ) → i ≡ P.start b + j → (k : ℕ) → x ≡ No k → ran k b i f r' m' ≡ rest (budget - f) b r m f
-    unfolding finish exit_of answer_of NoFirst
-    run-faults i ei k z =
-        let y : number_of (question_of k) ≡ k = number-unless k (λ p. steps-ask P (P.long b) (at b 0 r m f 0) (at b j r' m' f n) (sym e ∙ rw (z, p))) in
-        sym (block_more ∙ rw (z, ei, y))
+    pub run-faults : (i : ℕ) → i ≡ P.start b + j → (q : Question) → x ≡ Err q → ran (number_of q) b i f r' m' ≡ rest (budget - f) b r m f
+    unfolding finish exit_of answer_of
+    run-faults i ei q z = sym (block_more ∙ rw (z, ei))
 
-  pub run-pauses : (budget f b i : ℕ) (r m : List ℕ) → budget ≤ f → i ≡ P.start b → ran 40 b i f r m ≡ rest (budget - f) b r m f
+  pub run-pauses : (budget f b i : ℕ) (r m : List ℕ) → f ≡ budget → i ≡ P.start b → ran 40 b i budget r m ≡ rest (budget - f) b r m f
   unfolding run_blocks answer_of
-  run-pauses budget f b i r m h ei = rw (sub-eq-zero_of_le h, ei, add-zero (P.start b))
+  run-pauses budget f b i r m e ei =
+      let h : budget ≤ budget = omega arith in
+      rw (e, sub-eq-zero_of_le h, ei, add-zero (P.start b))
 
 -- ---- the opening questions
 
-opened-no : (o : Outcome (Unit {0})) (P : Routine) (m : List ℕ) (g : Ready) (k : ℕ) (v : Verdict) → v ≡ verdict_of o → (v.number ≡ 0 → ⊥)
-    → ran v.number v.first v.second 0 g.registers m ≡ opened o P m g k
-unfolding verdict_of opened
-opened-no (ok u) P m g k v e z = absurd (z (ap (λ (x : Verdict). x.number) e))
-opened-no (refused f) P m g k v e z = rw e
+-- a run by what its opening questions come to
+module _ (C : Code) (m : List ℕ) (g : Ready) (k : ℕ) where
+  pub run-refused : {o : Outcome (Unit {0})} {r : Refusal} → o ≡ run_ask C m g.block → o ≡ refused r
+      → ran (number_of r.question) r.first r.second 0 g.registers m ≡ run C m g k
+  unfolding run opened
+  run-refused e z = rw (← e, z)
 
-module _ (C : Code) (m : List ℕ) (g : Ready) where
-  -- past k questions, those left come to what all come to
-  abbrev pub RunPast : ℕ → Type 0
-  RunPast k = ComesTo (verdict_of (run_ask C m g.block)) (drop k (run_questions C m g.block))
-
-  pub run-begins : RunPast 0
-  unfolding run_ask
-  run-begins = record { asked = refl }
-
-  -- a run whose opening questions come to the verdict v
-  module _ (k : ℕ) (v : Verdict) (e : v ≡ verdict_of (run_ask C m g.block)) where
-    pub run-refused : (v.number ≡ 0 → ⊥) → ran v.number v.first v.second 0 g.registers m ≡ run C m g k
-    unfolding run
-    run-refused n = opened-no (run_ask C m g.block) (routine_of C) m g k v e n
-
-    pub run-opens : v.number ≡ 0 → ran_of C m g k ≡ run C m g k
-    unfolding run opened
-    run-opens z = rw (no-refusal (run_ask C m g.block) v e z)
+  pub run-opens : {o : Outcome (Unit {0})} {u : Unit {0}} → o ≡ run_ask C m g.block → o ≡ ok u → ran_of C m g k ≡ run C m g k
+  unfolding run opened
+  run-opens e z = rw (← e, z)

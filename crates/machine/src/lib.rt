@@ -1,28 +1,39 @@
 // The machine: a block, and a run with its opening questions.
 #![tactic(auto)]
 
-ghost use Rattle.std.specs.Prelude.{◌≡◌, ℕ, ◌+◌, ◌/◌, ◌<◌, ◌≤◌, length, get_or};
+ghost use Rattle.std.specs.Prelude.{◌≡◌, ◌≢◌, ℕ, ◌+◌, ◌-◌, ◌/◌, ◌<◌, ◌≤◌, length, get_or, IfErr};
+ghost use Rattle.model.specs.Question.{ok};
 ghost use Rattle.model.specs.Table.{Routine, code_of};
-ghost use Rattle.model.specs.Machine.{steps, run, returned, ready};
+ghost use Rattle.model.specs.Machine.{steps, run, run_ask, returned, ready};
 ghost use Rattle.instruction.specs.Rows.{opcode_rows};
 ghost use Rattle.step.specs.Answer.{at, exit_of};
-ghost use Rattle.machine.specs.Run.{Covers, Opened, ran_of};
+ghost use Rattle.machine.specs.Run.{Covers, Opened, located, exit_in, offset_of, ran_of};
 
-use model::number::{HALTED, PASSED, PAUSED, START_BLOCK};
-use model::{RunAnswer, Verdict, limit};
+use model::number::{HALTED, PAUSED};
+use model::{Question, Refusal, RunAnswer, limit};
 use step::Exit;
 
 // ---- a block
 
-// How a block was left, and the offset of its last instruction carried out or refused.
+// The offset of the instruction that was asked, and the question that had a no. With the question first, its byte lies over the low byte of
+// an exit's block, which is then put together from parts: blocks of a jump alone take an eighth longer.
 #[derive(Clone, Copy)]
-struct Ended {
-    exit: Exit,
+struct Fault {
     at: usize,
+    question: Question,
 }
 
-// A block, whose code is one part of the code table. The word is read before the last is told from the others, so that reading it does
-// not wait for that.
+// A no, with the offset of the instruction that was asked: a function, since of a closure given to `map_err` the proof knows no result.
+fn located<T>(answer: Result<T, Question>, at: usize) -> Result<T, Fault>
+    ensures { result ≡ located at answer }
+{
+    match answer {
+        Ok(x) => Ok(x),
+        Err(question) => Err(Fault { at, question }),
+    }
+}
+
+// A block, whose code is one part of the code table.
 fn run_block(
     rows: &[[u32; 2]; instruction::OPCODES],
     part: &[u32],
@@ -30,30 +41,18 @@ fn run_block(
     memory: &mut [u32],
     b: u32,
     count: u32,
-) -> Ended
+) -> Result<Exit, Fault>
     requires { (rows.now ≡ opcode_rows) × (1 ≤ length part.now) × (b < 4294967295) }
     ensures steps { (P : Routine) (f n : ℕ) → P.count ≡ count → Covers P b part.now
-        → exit_of result.exit (at b result.at registers.new memory.new f (n + result.at))
+        → exit_of (exit_in result) (at b (offset_of part.now result) registers.new memory.new f (n + offset_of part.now result))
         ≡ steps P (P.long b) (at b 0 registers.old memory.old f n) }
-    ensures place { result.at < length part.now }
+    ensures place { IfErr result (λ e. e.at < length part.now) }
 {
     let last = part.len() - 1;
-    let mut i = 0;
-    loop {
-        let w = part[i];
-        if i == last {
-            let exit = step::leave(rows, registers, w, b, count);
-            return Ended { exit, at: i };
-        }
-        let number = step::advance(rows, registers, memory, w);
-        if number != PASSED {
-            return Ended {
-                exit: Exit::No(number),
-                at: i,
-            };
-        }
-        i += 1;
+    for (i, &w) in part[..last].iter().enumerate() {
+        located(step::advance(rows, registers, memory, w), i)?;
     }
+    located(step::leave(rows, registers, part[last], b, count), last)
 }
 
 // ---- a run
@@ -72,7 +71,8 @@ fn answer(number: u32, block: u32, index: u32, finished: u64, registers: [u32; 8
 }
 
 // A budget of blocks, from the first instruction of a block that exists; starts has where each block starts. The block after another
-// starts where that ends: taken from there, a test of data stays a branch, and the next block does not wait for it.
+// starts where that ends: taken from there, a test of data stays a branch, and the next block does not wait for it. The tables stay parameters,
+// since no other function would take a struct of them.
 fn run_blocks(
     blocks: &[u32],
     code: &[u32],
@@ -87,16 +87,19 @@ fn run_blocks(
         × (memory.new ≡ (ran_of (code_of blocks.now code.now) memory.old (ready block registers) budget).memory) }
 {
     let rows = instruction::opcode_rows();
-    let count = (blocks.len() / limit::ROW_WORDS) as u32;
+    let count = table::rows(blocks) as u32;
     let mut b = block;
     let mut first = starts[block as usize] as usize;
     let mut current = registers;
-    let mut finished = 0;
-    while finished < budget {
+    for finished in 0..budget {
         let end = starts[b as usize + 1] as usize;
-        let e = run_block(&rows, &code[first..end], &mut current, memory, b, count);
-        let index = (first + e.at) as u32;
-        let exit = e.exit;
+        let exit = match run_block(&rows, &code[first..end], &mut current, memory, b, count) {
+            Ok(exit) => exit,
+            Err(fault) => {
+                let number = fault.question.number();
+                return answer(number, b, (first + fault.at) as u32, finished, current);
+            }
+        };
         match exit {
             Exit::To(t) => {
                 b = t;
@@ -106,23 +109,30 @@ fn run_blocks(
                 b += 1;
                 first = end;
             }
-            Exit::Halted => {
-                return answer(HALTED, b, index, finished + 1, current);
-            }
-            Exit::No(n) => {
-                return answer(n, b, index, finished, current);
-            }
+            Exit::Halted => return answer(HALTED, b, end as u32 - 1, finished + 1, current),
         }
-        finished += 1;
     }
-    answer(PAUSED, b, first as u32, finished, current)
+    answer(PAUSED, b, first as u32, budget, current)
 }
 
-// A run refused before its first instruction.
-fn unopened(v: Verdict, registers: [u32; 8]) -> RunAnswer
-    ensures { result ≡ record { number = v.number; block = v.first; index = v.second; finished = 0; registers = registers } }
+// The opening questions; where they pass, starts has where each block starts. Inlined, it would take registers from the loop of `run_blocks`,
+// which then is up to a tenth slower.
+#[inline(never)]
+#[tactic(auto, using(model::proofs::Tests::asked), unfolding(model::specs::Machine::run_ask))]
+fn opening(
+    blocks: &[u32],
+    code: &[u32],
+    memory: &[u32],
+    block: u32,
+    starts: &mut [u32; limit::BLOCKS + 1],
+) -> Result<(), Refusal>
+    ensures outcome { result ≡ run_ask (code_of blocks.now code.now) memory.now block }
+    ensures opened { result ≡ ok tt → Opened blocks.now code.now starts.new block }
 {
-    answer(v.number, v.first, v.second, 0, registers)
+    table::code_lengths(blocks.len(), code.len())?;
+    table::lengths(blocks, code, starts)?;
+    table::start_block(blocks, block)?;
+    layout::memory_length(memory.len())
 }
 
 // A run of a budget of blocks from a start block, over any tables and memory.
@@ -137,21 +147,9 @@ pub fn run(
     ensures { (result ≡ returned (run (code_of blocks.now code.now) memory.old (ready block registers) budget))
         × (memory.new ≡ (run (code_of blocks.now code.now) memory.old (ready block registers) budget).memory) }
 {
-    let tables = table::code_lengths(blocks.len(), code.len());
-    if tables.number != PASSED {
-        return unopened(tables, registers);
-    }
     let mut starts = [0u32; limit::BLOCKS + 1];
-    let lengths = table::lengths(blocks, code, &mut starts);
-    if lengths.number != PASSED {
-        return unopened(lengths, registers);
+    match opening(blocks, code, memory, block, &mut starts) {
+        Ok(()) => run_blocks(blocks, code, &starts, memory, block, registers, budget),
+        Err(no) => answer(no.question.number(), no.first, no.second, 0, registers),
     }
-    if blocks.len() / limit::ROW_WORDS <= block as usize {
-        return unopened(table::answer::refused(START_BLOCK, 0), registers);
-    }
-    let words = layout::memory_length(memory.len());
-    if words.number != PASSED {
-        return unopened(words, registers);
-    }
-    run_blocks(blocks, code, &starts, memory, block, registers, budget)
 }

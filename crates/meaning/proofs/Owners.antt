@@ -11,7 +11,8 @@ use borrow.Author.Tests.{lt-ltb, le-ltb, eq-eqb, ne_eqb, eqb-true}
 use Rattle.model.specs.Question.{◌and◌, ◌or◌, pick, ok}
 use Rattle.model.specs.Table.{Tables}
 use Rattle.model.specs.Allocation.{is_allocated, rows_ask}
-use Rattle.model.proofs.Logic.{by_test, by_equality, true-and, true-or, pick_true, pick-false, ask-ok}
+use Rattle.model.proofs.Logic.{by_test, by_equality, by_less, true-and, true-or, pick_true, pick-false, ask-ok}
+use Rattle.model.proofs.Lists.{get_or-past}
 use Rattle.model.proofs.TableLaws.{Row, rows-laid}
 use Rattle.layout.proofs.Layouts.{RowAt, rows-from}
 use Rattle.meaning.specs.Owners.{owner_at, starts_at, entry_of, owners_of, RowCanBeLaid, CanBeLaid, Owned}
@@ -39,13 +40,9 @@ pick_same a b x y z e f = rw (e, f)
 -- ---- entries, as they are read and made
 
 module _ (owners : List ℕ) (x : ℕ) where
-  pub owner-far : 16384 ≤ x → 0 ≡ owner_at owners x
+  pub owner-is : length owners ≡ 16384 → get_or owners x 0 ≡ owner_at owners x
   unfolding owner_at
-  owner-far h = rw (le-ltb x 16384 h)
-
-  pub owner-near : x < 16384 → get_or owners x 0 ≡ owner_at owners x
-  unfolding owner_at
-  owner-near h = rw (lt-ltb x 16384 h)
+  owner-is e = by_less x 16384 (λ h. rw (lt-ltb x 16384 h)) (λ h. rw (le-ltb x 16384 h) (get_or-past owners x 0 (omega arith)))
 
   module _ (t : ℕ) where
     pub entry-goes-on : starts_at owners x t ≡ true → owner_at owners x ≡ entry_of owners x t

@@ -1,19 +1,21 @@
 -- A run is tested by one entry of the table of owners: its elements start one after the other up to the end that the entry holds.
-use mathlib.Core.Path.{◌≡◌, sym, ap, ◌∙◌}
-use mathlib.Core.Bool.{true, false}
+use mathlib.Core.Path.{◌≡◌, refl, sym, ap, ◌∙◌}
+use mathlib.Core.Bool.{Bool, true, false, false≢true}
 use mathlib.Core.List.{List}
 use Prim.Native.Nat.{ℕ, zero, suc, ◌+◌, ◌-◌, ◌*◌, ◌/◌, ◌%◌, ◌≤◌, ◌<◌}
 use native.Mathlib.Nat.{div-add-mod', div-le_self, zero-mul}
 use native.Mathlib.Omega.{arith}
-use lib.Dec.{leb, eqb}
-use borrow.Author.Tests.{lt-ltb, le-ltb, le-leb, lt-leb, eq-eqb, eqb-true, leb-true, leb-false}
+use lib.Dec.{ltb, leb, eqb}
+use borrow.Author.Tests.{lt-ltb, le-ltb, le-leb, lt-leb, eqb-true, leb-true, leb-false}
 use Rattle.model.specs.Question.{◌and◌}
 use Rattle.model.specs.Word.{difference}
 use Rattle.model.specs.Table.{Tables, head_of, tables_of}
 use Rattle.model.specs.Allocation.{is_allocated}
 use Rattle.model.specs.MemoryCheck.{when_true, unless_true, starts_test, run_test}
-use Rattle.model.proofs.Logic.{by_test, and_no, and_yes, yes_and}
+use Rattle.model.proofs.Logic.{by_test, by_less, and_yes}
+use Rattle.meaning.specs.declared.Meanings.{Meanings}
 use Rattle.meaning.specs.Owners.{owner_at, starts_at, Owned}
+use Rattle.meaning.specs.Means.{tables}
 
 -- ---- the starts of a run
 
@@ -60,43 +62,52 @@ module _ (𝒯 : Tables) (allocations owners : List ℕ) (I : Owned 𝒯 allocat
       (λ q. let j : (e - d) / 𝒯.size t ≡ 0 = omega (arith, leb-false 1 ((e - d) / 𝒯.size t) q) in
       absurd (omega (arith, div-add-mod' (e - d) (𝒯.size t), ap (λ (n : ℕ). n * 𝒯.size t) j, zero-mul (𝒯.size t))))
 
--- ---- one law for each answer to 'is it a run?'
+-- ---- tests in a row, each put after a yes
 
-pub run-empty : (𝒯 : Tables) (allocations : List ℕ) (t d e p : ℕ) → e ≤ d → false ≡ run_test 𝒯 allocations t d e p
-unfolding run_test ◌and◌
-run-empty 𝒯 allocations t d e p h = rw (le-ltb d e h)
+pub and-goes-on : (a b : Bool) → a ≡ true → b ≡ a and b
+and-goes-on a b h = sym (and_yes a b h)
 
-pub run-unstarted : {𝒯 : Tables} {allocations owners : List ℕ} → Owned 𝒯 allocations owners → (t d e p : ℕ)
-    → d < e → starts_at owners d t ≡ false → false ≡ run_test 𝒯 allocations t d e p
-unfolding run_test
-run-unstarted I t d e p h a =
-    sym (and_no _ _ (λ _. and_no _ _ (λ _. and_no _ _ (λ _. starts-no _ _ _ I t (e - d) d e _ h (I.starts d t ∙ a)))))
+pub and-stops : (a b : Bool) → a ≡ false → a ≡ a and b
+unfolding ◌and◌
+and-stops true b h = absurd (false≢true (sym h))
+and-stops false b h = refl
 
--- words from d to e, the first of which starts a record of type t
-pub record RunBegun (types owners : List ℕ) (t d e : ℕ) : Type 0 where
-  pub ahead : d < e
-  pub some : 1 ≤ head_of types t
-  pub starts : starts_at owners d t ≡ true
+-- ---- the answer to 'is it a run?'
 
-module _ {types : List ℕ} (tags : List ℕ) {allocations owners : List ℕ} (I : Owned (tables_of types tags) allocations owners) (p : ℕ) {t d e : ℕ}
-    (B : RunBegun types owners t d e) where
-  run-starts : (e - d) % head_of types t ≡ 0
-      → starts_test (tables_of types tags) allocations (e - d) d e (head_of types t) t ≡ leb e (owner_at owners d % 65536)
-  unfolding tables_of
-  run-starts m = whole_run (tables_of types tags) allocations owners I t d e B.some B.ahead m (I.starts d t ∙ B.starts)
+in_order : (a b : Bool) → b and a ≡ (a and true) and b
+unfolding ◌and◌
+in_order true true = refl
+in_order true false = refl
+in_order false true = refl
+in_order false false = refl
 
-  pub run_short : owner_at owners d % 65536 < e → false ≡ run_test (tables_of types tags) allocations t d e p
-  unfolding run_test tables_of
-  run_short l = sym (and_no _ _ (λ _. and_no _ _ (λ m. and_no _ _ (λ _. run-starts (eqb-true _ 0 m) ∙ lt-leb e _ l))))
+none : (a b : Bool) → false ≡ (a and false) and b
+unfolding ◌and◌
+none true b = refl
+none false b = refl
 
-  module _ (n : ℕ) (en : n ≡ head_of types t) where
-    pub run-broken : ((e - d) % n ≡ 0 → ⊥) → false ≡ run_test (tables_of types tags) allocations t d e p
-    unfolding run_test tables_of
-    run-broken m = sym (and_no _ _ (λ _. and_no _ _ (λ q. absurd (m (rw en (eqb-true _ 0 q))))))
+-- records of type t start one after the other from d up to e
+abbrev pub reached : Meanings → ℕ → ℕ → ℕ → Bool
+reached m t d e = starts_at m.owners.now d t and leb e (owner_at m.owners.now d % 65536)
 
-    pub run-aligned : (e - d) % n ≡ 0 → e ≤ owner_at owners d % 65536 → (x : ℕ) → x ≡ difference p d
-        → eqb (x % n) 0 ≡ run_test (tables_of types tags) allocations t d e p
-    unfolding run_test tables_of
-    run-aligned m l x ex =
-        rw (ex, en) (sym (
-        and_yes _ _ (lt-ltb d e B.ahead) ∙ and_yes _ _ (eq-eqb _ 0 (rw en at m)) ∙ yes_and _ _ (run-starts (rw en at m) ∙ le-leb e _ l)))
+module _ (m : Meanings) (t d e p : ℕ) (some : 1 ≤ head_of m.types.now t) where
+  abbrev size : ℕ
+  size = head_of m.types.now t
+
+  starts_reached : d < e → (e - d) % size ≡ 0 → starts_test (tables m) m.allocations.now (e - d) d e size t ≡ reached m t d e
+  unfolding tables_of ◌and◌
+  starts_reached l h =
+      by_test (starts_at m.owners.now d t)
+      (λ s. rw s (whole_run (tables m) m.allocations.now m.owners.now m.owned t d e some l h (m.owned.starts d t ∙ s)))
+      (λ s. rw s (starts-no (tables m) m.allocations.now m.owners.now m.owned t (e - d) d e size l (m.owned.starts d t ∙ s)))
+
+  pub run_is : run_test (tables m) m.allocations.now t d e p
+      ≡ ((ltb d e and reached m t d e) and eqb ((e - d) % size) 0) and eqb (difference p d % size) 0
+  unfolding run_test tables_of ◌and◌
+  run_is =
+      by_less d e
+      (λ l. rw (lt-ltb d e l) (
+      by_test (eqb ((e - d) % size) 0)
+      (λ h. rw (h, starts_reached l (eqb-true _ 0 h)) (in_order (reached m t d e) _))
+      (λ h. rw h (none (reached m t d e) _))))
+      (λ l. rw (le-ltb d e l))

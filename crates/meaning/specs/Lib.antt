@@ -1,3 +1,4 @@
 -- Definitions of the crate.
 pub mod Owners
 pub mod Search
+pub mod Means

@@ -1,15 +1,15 @@
 -- What the search over a record's fields, or over the registers, answers.
-use Rattle.std.specs.Prelude.{◌≡◌, Bool, true, List, ℕ, zero, suc, ◌+◌, ◌*◌, ◌≤◌, ◌<◌, length, get_or}
+use Rattle.std.specs.Prelude.{◌≡◌, Bool, true, List, ℕ, zero, suc, ◌≤◌, ◌<◌, length, get_or, Option, Some, None}
 use Rattle.model.specs.Question.{pick}
 use Rattle.model.specs.Word.{kind_of, record_of, first_of, second_of}
 use Rattle.model.specs.Types.{type_of}
-use Rattle.model.specs.Table.{rows, head_of, words_of, Tables, well_made}
+use Rattle.model.specs.Table.{rows, head_of, Tables, well_made}
 use Rattle.model.specs.MemoryCheck.{meets}
 
--- the first of the n numbers from i on that does not pass, and i + n where each does
-unfoldable pub first_false : ℕ → ℕ → (ℕ → Bool) → ℕ
-first_false zero i f = i
-first_false (suc n) i f = pick (f i) (first_false n (suc i) f) i
+-- the first of the n numbers from i on that does not pass, if any does not
+unfoldable pub first_false : ℕ → ℕ → (ℕ → Bool) → Option ℕ
+first_false zero i f = None
+first_false (suc n) i f = pick (f i) (first_false n (suc i) f) (Some i)
 
 -- a type word that can be read: its kind is one of the nine, the record type of a run exists, names have one of the n words
 pub record Legible (count n w : ℕ) : Type 0 where
@@ -26,10 +26,7 @@ place_meets 𝒯 allocations words names i = meets 𝒯 allocations (type_of (ge
 abbrev pub EachHasField : List ℕ → Type 0
 EachHasField types = (t : ℕ) → t < rows types → 1 ≤ head_of types t
 
--- the first n type words of row k of a table are well made, with as many names or more to stand for words
-pub record RowLegible (types table : List ℕ) (k : ℕ) (names : List ℕ) (n : ℕ) : Type 0 where
-  pub fields : EachHasField types
-  pub whole : k * 9 + 9 ≤ length table
-  pub most : n ≤ 8
-  pub named : n ≤ length names
-  pub well : (i : ℕ) → i < n → well_made (rows types) n (get_or (words_of table k) i 0) ≡ true
+-- the type words are well made, with as many names or more to stand for words
+pub record WordsLegible (count : ℕ) (words names : List ℕ) : Type 0 where
+  pub named : length words ≤ length names
+  pub well : (i : ℕ) → i < length words → well_made count (length words) (get_or words i 0) ≡ true

@@ -1,6 +1,5 @@
--- The table of owners of a passed layout, one law for each answer to Q20 and Q21, and the questions of the two checks in their order.
+-- The table of owners of a passed layout, and one law for each answer to Q20 and Q21.
 use mathlib.Core.Path.{◌≡◌, refl, sym, ap, ◌∙◌}
-use mathlib.Core.Bool.{true}
 use mathlib.Core.List.{List, ◌∷◌}
 use Prim.Native.Nat.{ℕ, zero, suc, ◌+◌, ◌-◌, ◌*◌, ◌/◌, ◌≤◌, ◌<◌}
 use native.Mathlib.Numerals.{add-one}
@@ -8,20 +7,19 @@ use native.Mathlib.Omega.{arith}
 use lib.ListN.{length, get_or, take, drop, length-drop, drop_of_length-le, replicate, length-replicate}
 use lib.Seq.{take_all}
 use borrow.Author.Tests.{ltb-true}
-use Rattle.model.specs.Question.{q20, q21, refusal, ok, then, first_no, passed, refusing, verdict_of}
-use Rattle.model.specs.Table.{rows, head_of, words_of, Tables, tables_of, well_made, annotations_ask, start_ask, Code}
-use Rattle.model.specs.Machine.{Ready}
-use Rattle.model.specs.MemoryCheck.{records_ask, register_ask, layout_ask, memory_ask, memory_check, entry_ask, entry_check, routine_ask, entry_questions}
-use Rattle.model.specs.MemoryCheck.{memory_questions, routine_questions}
+use Rattle.model.specs.Question.{refusal, ok, refused, then, first_no}
+use Rattle.model.specs.declared.questions.Question.TheVariants.{Field as q20, Register as q21}
+use Rattle.model.specs.Table.{rows, head_of, words_of, Tables, tables_of, annotations_ask, start_ask, Code}
+use Rattle.model.specs.MemoryCheck.{field_ask, records_ask, register_ask, layout_ask, routine_ask, routine_questions}
 use Rattle.model.proofs.Logic.{ask-ok, all-passed}
-use Rattle.table.proofs.Questions.{ComesTo}
-use Rattle.table.proofs.Laws.{annotation-well-made}
+use Rattle.table.proofs.Laws.{words-length, annotation-well-made}
 use Rattle.layout.proofs.Layouts.{RowAt, rows-from}
-use Rattle.layout.proofs.Passed.{layout-types, layout-memory, layout-even, layout-laid, layout-sizes, layout_row}
+use Rattle.layout.proofs.Passed.{InPlace, layout-well, layout-types, layout-memory, layout-even, layout-laid, layout-sizes, layout_row}
 use Rattle.meaning.specs.Owners.{owners_of, CanBeLaid, Owned}
-use Rattle.meaning.specs.Search.{first_false, place_meets, EachHasField}
+use Rattle.meaning.specs.Search.{first_false, place_meets, EachHasField, WordsLegible}
 use Rattle.meaning.proofs.Owners.{owned}
-use Rattle.meaning.proofs.Search.{found, none_found, field_is, register-is}
+use Rattle.std.proofs.Common.{Option, Some, None, length-take-le, get_or-take}
+use Rattle.meaning.proofs.Search.{found_at, searched, found-below, field_is, register-is}
 
 -- zeros, as many as there are addresses or any other number
 zero-at : (n x : ℕ) → ◌≡◌ {A = ℕ} (get_or (replicate n 0) x 0) 0
@@ -46,20 +44,12 @@ module _ (types tags allocations : List ℕ) (top : ℕ) (q : layout_ask types t
   }
 
   -- the table filled from zeros
-  pub layout-owned : (n : ℕ) (owners : List ℕ) → n ≡ 16384 → owners ≡ owners_of (λ t. head_of types t) allocations (replicate n 0)
-      → Owned (tables_of types tags) allocations owners
+  pub layout-owned : (n : ℕ) {owners : List ℕ} (filled : List ℕ) → n ≡ 16384 → owners ≡ replicate n 0
+      → filled ≡ owners_of (λ t. head_of types t) allocations owners → Owned (tables_of types tags) allocations filled
   unfolding tables_of
-  layout-owned n owners h e =
+  layout-owned n filled h z e =
       owned (tables_of types tags) top (layout-memory types tags allocations top q) layout-fields
-      (replicate n 0) (length-replicate n 0 ∙ h) (zero-at n) allocations owners (layout-laid types tags allocations top q) e
-
--- ---- the words of memory from p on, as a part of memory
-
-pub tail-is : (memory : List ℕ) (p : ℕ) → take (length memory - p) (drop p memory) ≡ drop p memory
-tail-is memory p = take_all (length memory - p) (drop p memory) (omega (arith, length-drop p memory))
-
-pub tail-length : (memory : List ℕ) (p n : ℕ) → p + n ≤ length memory → n ≤ length (take (length memory - p) (drop p memory))
-tail-length memory p n h = rw (tail-is memory p) (omega (arith, length-drop p memory))
+      (replicate n 0) (length-replicate n 0 ∙ h) (zero-at n) allocations filled (layout-laid types tags allocations top q) (rw z at e)
 
 -- ---- Q20, as a loop asks it
 
@@ -72,60 +62,80 @@ pub record RecordsLeft (types tags allocations memory : List ℕ) (k : ℕ) : Ty
 pub records-begin : (types tags allocations memory : List ℕ) → RecordsLeft types tags allocations memory 0
 records-begin types tags allocations memory = record { rest = refl; within = omega arith }
 
--- the record of row k, of type t at p, has been searched: field f is the first that is not met, of n
-pub record Searched (types tags allocations memory : List ℕ) (k p t n f : ℕ) : Type 0 where
+-- row k of the allocations, as it is read: a record of type t at p
+pub row-read : {allocations : List ℕ} {k p t : ℕ} → k < length allocations / 2 → p ≡ get_or allocations (k * 2) 0 → t ≡ get_or allocations (k * 2 + 1) 0
+    → RowAt allocations k p t
+row-read h s e = record { whole = omega arith; start = s; typed = e }
+
+-- with its n type words, and its words at the head of names
+pub record Fields (types allocations memory : List ℕ) (k p t n : ℕ) (words names : List ℕ) : Type 0 where
   pub row : RowAt allocations k p t
   pub size : n ≡ head_of types t
-  pub search : f ≡ first_false n 0 (place_meets (tables_of types tags) allocations (words_of types t) (take (length memory - p) (drop p memory)))
+  pub typed : words ≡ take n (words_of types t)
+  pub named : names ≡ drop p memory
 
-module _ {types tags allocations memory : List ℕ} {k : ℕ} (L : RecordsLeft types tags allocations memory k) where
-  module _ {p t n f : ℕ} (S : Searched types tags allocations memory k p t n f) where
-    first-unmet : f ≡ first_false n 0 (place_meets (tables_of types tags) allocations (words_of types t) (drop p memory))
-    first-unmet =
-        S.search
-        ∙ ap (λ (names : List ℕ). first_false n 0 (place_meets (tables_of types tags) allocations (words_of types t) names)) (tail-is memory p)
+pub fields-read : {types allocations memory : List ℕ} {k p t n : ℕ} {w : List ℕ} → RowAt allocations k p t → n ≡ head_of types t → w ≡ words_of types t
+    → Fields types allocations memory k p t n (take n w) (take (length memory - p) (drop p memory))
+fields-read {memory} {p} {n} R h e = record {
+  row = R;
+  size = h;
+  typed = ap (λ (l : List ℕ). take n l) e;
+  named = take_all (length memory - p) (drop p memory) (omega (arith, length-drop p memory));
+}
+
+module _ {types : List ℕ} (tags : List ℕ) {allocations memory : List ℕ} (q : layout_ask types tags allocations (length memory) ≡ ok tt)
+    {k p t n : ℕ} {words names : List ℕ} (F : Fields types allocations memory k p t n words names) where
+  place : InPlace types (length memory) p t
+  place = layout_row types tags allocations (length memory) q F.row
+
+  words-count : length words ≡ n
+  words-count =
+      let l : length (words_of types t) ≡ 8 = words-length types t (omega (arith, place)) in
+      ap length F.typed ∙ length-take-le n (words_of types t) (omega (arith, F.size, place))
+
+  word-is : (j : ℕ) → j < n → get_or words j 0 ≡ get_or (words_of types t) j 0
+  word-is j h = rw F.typed (get_or-take n (words_of types t) j 0 h)
+
+  pub fields-legible : WordsLegible (rows types) words names
+  fields-legible = record {
+    named = omega (arith, words-count, F.size, place, ap length F.named, length-drop p memory);
+    well = λ i l. rw (words-count, word-is i (omega (arith, words-count)))
+        (layout-well types tags allocations (length memory) q t n place.exists F.size i (omega (arith, words-count)));
+  }
+
+  module _ (L : RecordsLeft types tags allocations memory k) where
+    abbrev search : Option ℕ
+    search = first_false (length words) 0 (place_meets (tables_of types tags) allocations words names)
+
+    row-asked : first_no n 0 (field_ask (tables_of types tags) allocations memory k p t) ≡ found_at (λ f. refusal q20 k f) search
+    unfolding tables_of
+    row-asked =
+        rw (words-count, F.named) (searched _ _ _ n 0 (λ j h. field_is (tables_of types tags) allocations memory words k p t j (word-is j (omega arith))))
 
     row-rest : records_ask (tables_of types tags) allocations memory allocations 0
         ≡ records_ask (tables_of types tags) allocations memory (p ∷ t ∷ drop ((k + 1) * 2) allocations) k
-    row-rest = L.rest ∙ ap (λ (l : List ℕ). records_ask (tables_of types tags) allocations memory l k) (rows-from S.row)
+    row-rest = L.rest ∙ ap (λ (l : List ℕ). records_ask (tables_of types tags) allocations memory l k) (rows-from F.row)
 
-    pub records-on : n ≤ f → RecordsLeft types tags allocations memory (k + 1)
+    pub records-on : {r : Option ℕ} → r ≡ search → r ≡ None → RecordsLeft types tags allocations memory (k + 1)
     unfolding records_ask tables_of then
-    records-on l =
-        let none = none_found _ (λ j. refusal q20 k j) _ (field_is (tables_of types tags) allocations memory k p t) n 0 f first-unmet (omega arith) in
-        record { rest = row-rest ∙ rw (← S.size, none, add-one k); within = omega (arith, S.row.whole) }
+    records-on er e = record { rest = row-rest ∙ rw (← F.size, row-asked, ← er, e, add-one k); within = omega (arith, F.row.whole) }
 
-    pub records-stop : f < n → refusing (refusal q20 k f) ≡ verdict_of (records_ask (tables_of types tags) allocations memory allocations 0)
-    unfolding records_ask tables_of then verdict_of
-    records-stop l =
-        let at = found _ (λ j. refusal q20 k j) _ (field_is (tables_of types tags) allocations memory k p t) n 0 f first-unmet (omega arith) in
-        rw (row-rest, ← S.size, at)
+    pub records-stop : {r : Option ℕ} {f : ℕ} → r ≡ search → r ≡ Some f
+        → refused (refusal q20 k f) ≡ records_ask (tables_of types tags) allocations memory allocations 0
+    unfolding records_ask tables_of then
+    records-stop er e = rw (row-rest, ← F.size, row-asked, ← er, e)
 
-  pub records-end : length allocations ≤ k * 2 → passed ≡ verdict_of (records_ask (tables_of types tags) allocations memory allocations 0)
-  unfolding records_ask verdict_of
-  records-end h = rw (L.rest, drop_of_length-le allocations h)
+    pub field-below : {r : Option ℕ} {f : ℕ} → r ≡ search → r ≡ Some f → f < 8
+    field-below er e = omega (arith, found-below _ _ _ (sym er ∙ e), words-count, F.size, place)
 
--- ---- the memory check
-
-module _ (types tags allocations memory : List ℕ) where
-  -- past k questions, those left come to what all come to
-  abbrev pub MemoryPast : ℕ → Type 0
-  MemoryPast k = ComesTo (memory_check types tags allocations memory) (drop k (memory_questions types tags allocations memory))
-
-  pub memory-begins : MemoryPast 0
-  unfolding memory_check memory_ask
-  memory-begins = record { asked = refl }
+pub records-end : {types tags allocations memory : List ℕ} {k : ℕ} → RecordsLeft types tags allocations memory k → length allocations ≤ k * 2
+    → ok tt ≡ records_ask (tables_of types tags) allocations memory allocations 0
+unfolding records_ask
+records-end {allocations} L h = rw (L.rest, drop_of_length-le allocations h)
 
 -- ---- Q1 for blocks and code, Q5, Q6 and Q16, in order
 
 module _ (count : ℕ) (C : Code) (b : ℕ) where
-  abbrev pub RoutinePast : ℕ → Type 0
-  RoutinePast k = ComesTo (verdict_of (routine_ask count C b)) (drop k (routine_questions count C b))
-
-  pub routine-begins : RoutinePast 0
-  unfolding routine_ask
-  routine-begins = record { asked = refl }
-
   -- what the passed questions of a routine give
   module _ (q : routine_ask count C b ≡ ok tt) where
     routine-parts : (annotations_ask count C.blocks ≡ ok tt) × (b < rows C.blocks)
@@ -137,26 +147,24 @@ module _ (count : ℕ) (C : Code) (b : ℕ) where
     pub routine-block : b < rows C.blocks
     routine-block = routine-parts.1
 
-    pub routine-well : (i : ℕ) → i < 8 → well_made count 8 (get_or (words_of C.blocks b) i 0) ≡ true
-    routine-well i l = annotation-well-made count C.blocks routine-parts.0 b i routine-block l
+    pub routine-legible : (annotation registers : List ℕ) → annotation ≡ words_of C.blocks b → length annotation ≡ 8 → length registers ≡ 8
+        → WordsLegible count annotation registers
+    routine-legible annotation registers e a r = record {
+      named = omega arith;
+      well = λ i l. rw (a, e) (annotation-well-made count C.blocks routine-parts.0 b i routine-block (omega arith));
+    }
 
 -- ---- Q21
 
-module _ (𝒯 : Tables) (allocations annotation registers : List ℕ) (k : ℕ) (e : k ≡ first_false 8 0 (place_meets 𝒯 allocations annotation registers)) where
-  pub registers-stop : k < 8 → refusing (refusal q21 k 0) ≡ verdict_of (first_no 8 0 (register_ask 𝒯 allocations annotation registers))
-  unfolding verdict_of
-  registers-stop h = sym (ap verdict_of (found _ (λ j. refusal q21 j 0) _ (register-is 𝒯 allocations annotation registers) 8 0 k e h))
+module _ (𝒯 : Tables) (allocations annotation registers : List ℕ) (n : ℕ) where
+  abbrev found : Option ℕ
+  found = first_false n 0 (place_meets 𝒯 allocations annotation registers)
 
-  pub registers-pass : 8 ≤ k → passed ≡ verdict_of (first_no 8 0 (register_ask 𝒯 allocations annotation registers))
-  unfolding verdict_of
-  registers-pass h = sym (ap verdict_of (none_found _ (λ j. refusal q21 j 0) _ (register-is 𝒯 allocations annotation registers) 8 0 k e h))
+  registers-asked : first_no n 0 (register_ask 𝒯 allocations annotation registers) ≡ found_at (λ j. refusal q21 j 0) found
+  registers-asked = searched _ _ _ n 0 (λ j h. register-is 𝒯 allocations annotation registers j)
 
--- ---- the entry check
+  pub registers-stop : {r : ℕ} → found ≡ Some r → refused (refusal q21 r 0) ≡ first_no n 0 (register_ask 𝒯 allocations annotation registers)
+  registers-stop e = rw (registers-asked, e)
 
-module _ (types tags allocations memory : List ℕ) (C : Code) (g : Ready) where
-  abbrev pub EntryPast : ℕ → Type 0
-  EntryPast k = ComesTo (entry_check types tags allocations memory C g) (drop k (entry_questions types tags allocations memory C g))
-
-  pub entry-begins : EntryPast 0
-  unfolding entry_check entry_ask
-  entry-begins = record { asked = refl }
+  pub registers-pass : found ≡ None → ok tt ≡ first_no n 0 (register_ask 𝒯 allocations annotation registers)
+  registers-pass e = rw (registers-asked, e)

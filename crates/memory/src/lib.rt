@@ -1,118 +1,135 @@
 // The memory check (Q20) and the entry check (Q16, Q21).
 #![tactic(auto)]
 
-ghost use Rattle.std.specs.Prelude.{◌≡◌, true, List, ℕ, ◌+◌, ◌*◌, ◌≤◌, ◌<◌, length, get_or};
-ghost use Rattle.model.specs.Question.{ok, first_no, verdict_of};
-ghost use Rattle.model.specs.Table.{rows, words_of, tables_of, well_made, code_of};
+ghost use Rattle.std.specs.Prelude.{◌≡◌, ◌≤◌, length};
+ghost use Rattle.model.specs.Question.{ok, first_no};
+ghost use Rattle.model.specs.Table.{rows, code_of};
 ghost use Rattle.model.specs.Machine.{ready};
-ghost use Rattle.model.specs.MemoryCheck.{records_ask, register_ask, layout_ask, memory_check, entry_check, routine_ask};
-ghost use Rattle.meaning.specs.Owners.{Owned};
-ghost use Rattle.meaning.specs.Search.{EachHasField};
+ghost use Rattle.model.specs.MemoryCheck.{records_ask, register_ask, layout_ask, memory_ask, memory_check, entry_ask, entry_check, routine_ask};
+ghost use Rattle.meaning.specs.Means.{tables};
+ghost use Rattle.meaning.specs.Search.{WordsLegible};
 
-use meaning::owner;
-use model::{Verdict, limit, number};
-use table::answer;
+use meaning::Meanings;
+use meaning::owner::Owners;
+use model::{Question, Refusal, Verdict, limit};
 
 // ---- the memory check
 
-// Q20, over allocations that are laid out and their table of owners.
-fn records(
+// Q20, over allocations that are laid out.
+fn records(meanings: &Meanings, memory: &[u32]) -> Result<(), Refusal>
+    requires { layout_ask meanings.now.types.now meanings.now.tags.now meanings.now.allocations.now (length memory.now) ≡ ok tt }
+    ensures { result ≡ records_ask (tables meanings.now) meanings.now.allocations.now memory.now
+        meanings.now.allocations.now 0 }
+{
+    let count = meanings.allocations.len() / limit::ALLOCATION_WORDS;
+    for k in 0..count {
+        let start = layout::start(meanings.allocations, k) as usize;
+        let t = layout::record_type(meanings.allocations, k) as usize;
+        let n = table::head(meanings.types, t) as usize;
+        let words = &table::type_words(meanings.types, t)[..n];
+        let names = &memory[start..];
+        if let Some(f) = meanings.first_unmet(words, names) {
+            return Err(Refusal::within(Question::Field, k, f));
+        }
+    }
+    Ok(())
+}
+
+// Q1 to Q4 for types and tags, Q17, Q19 and Q20.
+#[tactic(auto, using(model::proofs::Tests::asked), unfolding(model::specs::MemoryCheck::memory_ask))]
+fn memory_ask(
     types: &[u32],
     tags: &[u32],
-    owners: &[u32; limit::MEMORY],
     allocations: &[u32],
     memory: &[u32],
-) -> Verdict
-    requires { (layout_ask types.now tags.now allocations.now (length memory.now) ≡ ok tt)
-        × Owned (tables_of types.now tags.now) allocations.now owners.now }
-    ensures { result ≡ verdict_of (records_ask (tables_of types.now tags.now)
-        allocations.now memory.now allocations.now 0) }
+) -> Result<(), Refusal>
+    ensures { result ≡ memory_ask types.now tags.now allocations.now memory.now }
 {
-    let count = allocations.len() / limit::ALLOCATION_WORDS;
-    let mut k = 0;
-    while k < count {
-        let start = layout::start(allocations, k) as usize;
-        let t = layout::record_type(allocations, k) as usize;
-        let n = table::head(types, t) as usize;
-        let f = meaning::first_unmet(types, tags, owners, types, t, &memory[start..], n);
-        if f < n {
-            return answer::refused_at(number::FIELD, k, f);
-        }
-        k += 1;
-    }
-    answer::passed()
+    layout::layout(types, tags, allocations, memory.len())?;
+    let mut owners = Owners::empty();
+    owners.fill(types, allocations);
+    let meanings = Meanings {
+        types,
+        tags,
+        allocations,
+        owners: &owners,
+    };
+    records(&meanings, memory)
 }
 
 // Whether memory is laid out as types and allocations say, and each field of each record meets its meaning.
+#[tactic(auto, unfolding(model::specs::MemoryCheck::memory_check))]
 pub fn memory_check(types: &[u32], tags: &[u32], allocations: &[u32], memory: &[u32]) -> Verdict
     ensures { result ≡ memory_check types.now tags.now allocations.now memory.now }
 {
-    let laid = layout::layout(types, tags, allocations, memory.len());
-    if laid.number != number::PASSED {
-        return laid;
-    }
-    let mut owners = [0u32; limit::MEMORY];
-    owner::fill(types, allocations, &mut owners);
-    records(types, tags, &owners, allocations, memory)
+    Verdict::from(memory_ask(types, tags, allocations, memory))
 }
 
 // ---- the entry check
 
 // Q1 for blocks and code, Q5, Q6 and Q16.
-fn routine(types: &[u32], blocks: &[u32], code: &[u32], block: u32) -> Verdict
+#[tactic(auto, using(model::proofs::Tests::asked), unfolding(model::specs::MemoryCheck::routine_ask))]
+fn routine_ask(types: &[u32], blocks: &[u32], code: &[u32], block: u32) -> Result<(), Refusal>
     requires { length types.now ≤ 576 }
-    ensures { result ≡ verdict_of (routine_ask (rows types.now) (code_of blocks.now code.now) block) }
+    ensures { result ≡ routine_ask (rows types.now) (code_of blocks.now code.now) block }
 {
-    let lengths = table::code_lengths(blocks.len(), code.len());
-    if lengths.number != number::PASSED {
-        return lengths;
-    }
+    table::code_lengths(blocks.len(), code.len())?;
     let mut starts = [0u32; limit::BLOCKS + 1];
-    let covered = table::lengths(blocks, code, &mut starts);
-    if covered.number != number::PASSED {
-        return covered;
-    }
-    let made = table::annotations((types.len() / limit::ROW_WORDS) as u32, blocks);
-    if made.number != number::PASSED {
-        return made;
-    }
-    if blocks.len() / limit::ROW_WORDS <= (block as usize) {
-        return answer::refused(number::START_BLOCK, 0);
-    }
-    answer::passed()
+    table::lengths(blocks, code, &mut starts)?;
+    table::annotations(table::rows(types) as u32, blocks)?;
+    table::start_block(blocks, block)
 }
 
-// Q21, over a table of owners. The contract holds for any allocations that the table tells of.
+// Q21, of the registers under the annotation of their block.
 fn registers_met(
+    meanings: &Meanings,
+    annotation: &[u32],
+    registers: &[u32; 8],
+) -> Result<(), Refusal>
+    requires { WordsLegible (rows meanings.now.types.now) annotation.now registers.now }
+    ensures { result ≡ first_no (length annotation.now) 0 (register_ask (tables meanings.now)
+        meanings.now.allocations.now annotation.now registers.now) }
+{
+    match meanings.first_unmet(annotation, registers) {
+        Some(r) => Err(Refusal::at(Question::Register, r)),
+        None => Ok(()),
+    }
+}
+
+// The layout of memory, the routine's tables, each register's meaning. The parameters are those of the call, which hands them on once.
+#[tactic(auto, using(model::proofs::Tests::asked), unfolding(model::specs::MemoryCheck::entry_ask))]
+fn entry_ask(
     types: &[u32],
     tags: &[u32],
-    owners: &[u32; limit::MEMORY],
+    allocations: &[u32],
+    memory: &[u32],
     blocks: &[u32],
-    block: usize,
+    code: &[u32],
+    block: u32,
     registers: [u32; 8],
-) -> Verdict
-    requires { EachHasField types.now × (block * 9 + 9 ≤ length blocks.now)
-        × ((i : ℕ) → i < 8 → well_made (rows types.now) 8 (get_or (words_of blocks.now block) i 0) ≡ true) }
-    ensures { (allocations : List ℕ) → Owned (tables_of types.now tags.now) allocations owners.now
-        → result ≡ verdict_of (first_no 8 0 (register_ask (tables_of types.now tags.now)
-        allocations (words_of blocks.now block) registers)) }
+) -> Result<(), Refusal>
+    ensures { result ≡ entry_ask types.now tags.now allocations.now memory.now
+        (code_of blocks.now code.now) (ready block registers) }
 {
-    let r = meaning::first_unmet(
+    layout::layout(types, tags, allocations, memory.len())?;
+    routine_ask(types, blocks, code, block)?;
+    let mut owners = Owners::empty();
+    owners.fill(types, allocations);
+    let meanings = Meanings {
         types,
         tags,
-        owners,
-        blocks,
-        block,
+        allocations,
+        owners: &owners,
+    };
+    registers_met(
+        &meanings,
+        table::type_words(blocks, block as usize),
         &registers,
-        limit::REGISTERS,
-    );
-    if r < limit::REGISTERS {
-        return answer::refused(number::REGISTER, r);
-    }
-    answer::passed()
+    )
 }
 
-// Whether a run may start at a block with these registers: the layout of memory, the routine's tables, each register's meaning.
+// Whether a run may start at a block with these registers.
+#[tactic(auto, unfolding(model::specs::MemoryCheck::entry_check))]
 pub fn entry_check(
     types: &[u32],
     tags: &[u32],
@@ -126,15 +143,14 @@ pub fn entry_check(
     ensures { result ≡ entry_check types.now tags.now allocations.now memory.now
         (code_of blocks.now code.now) (ready block registers) }
 {
-    let laid = layout::layout(types, tags, allocations, memory.len());
-    if laid.number != number::PASSED {
-        return laid;
-    }
-    let made = routine(types, blocks, code, block);
-    if made.number != number::PASSED {
-        return made;
-    }
-    let mut owners = [0u32; limit::MEMORY];
-    owner::fill(types, allocations, &mut owners);
-    registers_met(types, tags, &owners, blocks, block as usize, registers)
+    Verdict::from(entry_ask(
+        types,
+        tags,
+        allocations,
+        memory,
+        blocks,
+        code,
+        block,
+        registers,
+    ))
 }

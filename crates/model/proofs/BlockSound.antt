@@ -8,7 +8,7 @@ use native.Mathlib.Nat.{add-zero, zero-add}
 use lib.Dec.{ltb}
 use lib.ListN.{length, get_or}
 use borrow.Author.Tests.{lt-ltb, le-ltb, eqb-true, eqb-false}
-use Rattle.model.specs.declared.Reference.TheVariants.{To}
+use Rattle.std.specs.Prelude.{Some}
 use Rattle.model.specs.Question.{pick, Outcome, ok, provided, refused}
 use Rattle.model.specs.Word.{sum}
 use Rattle.model.specs.Table.{Tables, Routine, last_at}
@@ -233,7 +233,7 @@ module _ (𝒯 : Tables) (Is : Allocation) (memory₀ : List ℕ) (narrow : leng
       pub within : s.offset < P.long s.block
       pub reading : Reading
       pub reads : reading_at 𝒯 P s.block s.offset ≡ ok reading
-      pub said : reference_in 𝒯 reading b ≡ To type
+      pub said : reference_in 𝒯 reading b ≡ Some type
       pub base : Is (reg s.registers b) type
       pub below : c < 𝒯.size type
       pub unwrapped : sum (reg s.registers b) c ≡ reg s.registers b + c

@@ -8,7 +8,7 @@ use lib.Dec.{eqb}
 use lib.ListN.{length, get_or, set, take, drop, length-take}
 use lib.Seq.{get_or-set_other, get_or-take, get_or-drop}
 use borrow.Author.Tests.{eqb-true, eq-eqb, ne_eqb}
-use Rattle.model.specs.declared.Reference.TheVariants.{To}
+use Rattle.std.specs.Prelude.{Some}
 use Rattle.model.specs.Question.{◌and◌, pick, Question, Refusal, Outcome, ok}
 use Rattle.model.specs.Word.{opcode_of, a_of, b_of, c_of}
 use Rattle.model.specs.Types.{Dep, name, Ty, any, ref, maybe, tagged, present, same, span}
@@ -274,7 +274,7 @@ module _ (𝒯 : Tables) where
   unfolding look viewed born
   look-apart st g v t = by_test (is_open st) (λ q. rw q) (λ q. by_test (seen st v) (λ p. rw (q, p)) (λ p. rw (q, p)))
 
-  reference-kept : (st : Reading) (g b t : ℕ) → Tidy st g → reference_in 𝒯 (reading_apart st) b ≡ To t → reference_in 𝒯 st b ≡ To t
+  reference-kept : (st : Reading) (g b t : ℕ) → Tidy st g → reference_in 𝒯 (reading_apart st) b ≡ Some t → reference_in 𝒯 st b ≡ Some t
   unfolding typed
   reference-kept st g b t T e =
       fits-reference 𝒯 st.values g T.values (value_in st b) t (reference-fits 𝒯 (values_apart st.values) (value_in st b) t e)

@@ -6,8 +6,8 @@ use Prim.Native.Nat.{ℕ, zero, suc, ◌+◌, ◌*◌, ◌≤◌, ◌<◌}
 use native.Mathlib.Omega.{arith}
 use native.Mathlib.Nat.{zero-add}
 use lib.ListN.{length}
-use Rattle.model.specs.declared.Reference.{Reference}
-use Rattle.model.specs.declared.Reference.TheVariants.{To, Nothing}
+use Rattle.std.specs.Prelude.{Option}
+use Rattle.std.specs.Prelude.{Some, None}
 use Rattle.model.specs.Question.{Refusal, Outcome, ok, refused, provided, then, first_no, verdict_of}
 use Rattle.model.specs.Table.{Tables, tables_of, Code, Routine, routine_of, start_of, last_at, lengths_ask, tables_ask}
 use Rattle.model.specs.Machine.{Plain, constant, copy, add, subtract, multiply, divide, move, load, store, End, halt, jump, if_equal, if_less}
@@ -44,10 +44,10 @@ unfolding provided
 provided-bound true k n h = h
 provided-bound false k n h = omega arith
 
-pub reference-bound : (o : Reference) (k : ℕ → ℕ) (n : ℕ) → ((t : ℕ) → k t ≤ n) → with_reference o 0 k ≤ n
+pub reference-bound : (o : Option ℕ) (k : ℕ → ℕ) (n : ℕ) → ((t : ℕ) → k t ≤ n) → with_reference o 0 k ≤ n
 unfolding with_reference
-reference-bound (To t) k n h = h t
-reference-bound Nothing k n h = omega arith
+reference-bound (Some t) k n h = h t
+reference-bound None k n h = omega arith
 
 module _ (𝒯 : Tables) (small : (t : ℕ) → 𝒯.size t ≤ 8) where
   plain-bound : (x : Plain) (st : Reading) → plain_asked 𝒯 x st ≤ 8

@@ -6,8 +6,8 @@ use Prim.Native.Nat.{ℕ, suc, ◌≤◌, ◌<◌}
 use native.Mathlib.Omega.{arith}
 use lib.Dec.{eqb, ltb}
 use borrow.Author.Tests.{eqb-true}
-use Rattle.model.specs.declared.Reference.{Reference}
-use Rattle.model.specs.declared.Reference.TheVariants.{To, Nothing}
+use Rattle.std.specs.Prelude.{Option}
+use Rattle.std.specs.Prelude.{Some, None}
 use Rattle.model.specs.Question.{pick, Question, number_of, q14, q15, Refusal, Outcome, ok, refused, provided, then}
 use Rattle.model.specs.Table.{Tables, tables_of, Code, Routine, routine_of, last_at}
 use Rattle.model.specs.Machine.{Plain, constant, copy, add, subtract, multiply, divide, move, load, store, End, halt, jump, if_equal, if_less}
@@ -63,10 +63,10 @@ module _ (𝒯 : Tables) (P : Routine) (b j : ℕ) (st : Reading) where
   unfolding on_record with_reference provided
   access-count x r c k size = go (reference_in 𝒯 st r) refl
     where
-      go : (o : Reference) → reference_in 𝒯 st r ≡ o
+      go : (o : Option ℕ) → reference_in 𝒯 st r ≡ o
           → on_record 𝒯 (λ _. 0) x st r c size ≡ count_by (with_reference o 0 size) (on_record 𝒯 refuse x st r c (λ t. ok (k t)))
-      go Nothing e = rw e refl
-      go (To t) e =
+      go None e = rw e refl
+      go (Some t) e =
           rw e
           (by_test (ltb c (𝒯.size t))
           (λ h. by_test (permits 𝒯 x t c)
@@ -75,7 +75,7 @@ module _ (𝒯 : Tables) (P : Routine) (b j : ℕ) (st : Reading) where
           (λ h. rw h refl))
 
   -- what has no size counts nothing
-  no_size : (o : Reference) → ◌≡◌ {A = ℕ} (with_reference o 0 (λ _. 0)) 0
+  no_size : (o : Option ℕ) → ◌≡◌ {A = ℕ} (with_reference o 0 (λ _. 0)) 0
   no_size o = let h = reference-bound o (λ _. 0) 0 (λ t. omega arith) in omega arith
 
   no-count : (x : Access) (r c : ℕ) → ◌≡◌ {A = ℕ} (on_record 𝒯 (λ _. 0) x st r c (λ _. 0)) 0
@@ -164,9 +164,9 @@ module _ (types tags : List ℕ) (C : Code) (b j : ℕ) (st : Reading) where
     yes-put n h O (plain (load a r k)) e c = absurd (omega arith)
     yes-put n h O (plain (store a r k)) e c = go (reference_in 𝒯' st r) refl
       where
-        go : (o : Reference) → reference_in 𝒯' st r ≡ o → Puts 𝒯' P' b j n
-        go (To t) f = let z : 𝒯'.size t ≡ n = rw f at c in rw (← z) (by_a_store e O ((type-given types tags C b j st m l q r t).0 f))
-        go Nothing f = let z : 0 ≡ n = rw f at c in absurd (omega arith)
+        go : (o : Option ℕ) → reference_in 𝒯' st r ≡ o → Puts 𝒯' P' b j n
+        go (Some t) f = let z : 𝒯'.size t ≡ n = rw f at c in rw (← z) (by_a_store e O ((type-given types tags C b j st m l q r t).0 f))
+        go None f = let z : 0 ≡ n = rw f at c in absurd (omega arith)
     yes-put n h O (end halt) e c = absurd (omega arith)
     yes-put n h O (end (jump t)) e c = rw (← c) (by_a_jump e O)
     yes-put n h O (end (if_equal x k t)) e c = rw (← c) (by_if_equal e O)
@@ -209,7 +209,7 @@ module _ (types tags : List ℕ) (C : Code) (b j : ℕ) (st : Reading) where
     unfolding with_reference
     asked n (by_a_store {a = a} {r = r} {c = c} {t = t} e O G) =
         after-yes O (plain (store a r c)) e
-        ∙ ap (λ (o : Reference). with_reference o 0 (λ t. 𝒯'.size t)) ((type-given types tags C b j st m l q r t).1 G)
+        ∙ ap (λ (o : Option ℕ). with_reference o 0 (λ t. 𝒯'.size t)) ((type-given types tags C b j st m l q r t).1 G)
     asked n (by_a_jump {t = t} e O) = after-yes O (end (jump t)) e
     asked n (by_if_equal {x = x} {k = k} {t = t} e O) = after-yes O (end (if_equal x k t)) e
     asked n (by_if_less {x = x} {y = y} {t = t} e O) = after-yes O (end (if_less x y t)) e

@@ -1,4 +1,5 @@
 pub mod Logic
+pub mod Tests
 pub mod Lists
 pub mod Width
 pub mod Rows

@@ -111,7 +111,7 @@ true-every (suc n) i f h = true-and _ _ (h i (omega arith) (omega arith)) (true-
 pub not-ok : {A : Type 0} {r : Refusal} {x : A} → refused r ≡ ok x → ⊥
 not-ok e = let z : ◌≡◌ {A = ℕ} 0 1 = cc in omega arith
 
-pub ok_same : {A : Type 0} {x y : A} → ok x ≡ ok y → x ≡ y
+pub ok_same : {A : Type 0} {x y : A} → ◌≡◌ {A = Outcome A} (ok x) (ok y) → x ≡ y
 ok_same e = cc
 
 pub refused-same : {A : Type 0} {r s : Refusal} → ◌≡◌ {A = Outcome A} (refused r) (refused s) → r ≡ s

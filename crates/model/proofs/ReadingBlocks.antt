@@ -10,7 +10,7 @@ use native.Mathlib.Nat.{zero-add}
 use lib.Dec.{eqb}
 use lib.ListN.{length, get_or}
 use borrow.Author.Tests.{eqb-true, eqb-false, eq-eqb, ne_eqb}
-use Rattle.model.specs.declared.Reference.TheVariants.{To}
+use Rattle.std.specs.Prelude.{Some}
 use Rattle.model.specs.Question.{Question, q7, q8, q9, q13, q14, q15, Refusal, Outcome, ok, refused, ask, then, provided}
 use Rattle.model.specs.Types.{Dep, name, con, Ty, any, ref, maybe, tagged, present, same, span, type_of, rename, rename_dep}
 use Rattle.model.specs.Table.{Tables, tables_of, Code, Routine, routine_of, last_at, lengths_ask}
@@ -277,7 +277,7 @@ module _ (types tags : List ℕ) (C : Code) where
 
   -- the answer to Q10 is the type given
   pub type-given : (b j : ℕ) (st : Reading) → P'.long b ≤ 32 → j < P'.long b → reading_at 𝒯' P' b j ≡ ok st → (r t : ℕ)
-      → (reference_in 𝒯' st r ≡ To t) ↔ TypeGiven 𝒯' P' b j r t
+      → (reference_in 𝒯' st r ≡ Some t) ↔ TypeGiven 𝒯' P' b j r t
   type-given b j st m l q r t =
       let decides = reference-decides 𝒯' st.values (suc j) (tidy-before b j st m l q).values (value_in st r) t in (
         λ e. record { before = state_of st; reached = reading-reaches b j st m l q; reference = decides.0 e },

@@ -9,8 +9,8 @@ use native.Mathlib.Omega.{arith}
 use lib.Dec.{ltb}
 use lib.ListN.{length, get_or, set}
 use borrow.Author.Tests.{eqb-true, eq-eqb, lt-ltb, le-ltb, ltb-true, ltb-false}
-use Rattle.model.specs.declared.Reference.{Reference}
-use Rattle.model.specs.declared.Reference.TheVariants.{To, Nothing}
+use Rattle.std.specs.Prelude.{Option as Maybe}
+use Rattle.std.specs.Prelude.{Some, None}
 use Rattle.model.specs.Question.{◌or◌, Question, q10, q11, q12, q23, Refusal, Outcome, ok, refused, ask, provided}
 use Rattle.model.specs.Word.{record_of, first_of, second_of, signed}
 use Rattle.model.specs.Types.{Dep, Ty, any, ref, maybe, tagged, present, same, span, dep_of, type_of, rename, rename_dep}
@@ -159,7 +159,7 @@ module _ (𝒯 : Tables) where
   rule-access : (place : Question → Refusal) (x : Access) (st : Reading) (g b c t : ℕ) (k : ℕ → Outcome Reading) → Tidy st g → Accessible x st b c t
       → on_record 𝒯 (λ q. refused (place q)) x st b c k ≡ k t
   rule-access place x st g b c t k T A =
-      let reference : reference_in 𝒯 st b ≡ To t = (reference-decides 𝒯 st.values g T.values (value_in st b) t).1 A.reference in
+      let reference : reference_in 𝒯 st b ≡ Some t = (reference-decides 𝒯 st.values g T.values (value_in st b) t).1 A.reference in
       record-again 𝒯 _ x st b c t k reference A.below (rule-permits x t c A.permitted) (rule-touch st (value_in st b) A.touch)
 
   sees-one : {j v t : ℕ} {s s₁ s₂ : BlockState} {fs fs' : List ℕ} → Sees 𝒯 j v t s fs s₁ → Sees 𝒯 j v t s fs' s₂ → (fs ≡ fs') × (s₁ ≡ s₂)
@@ -277,7 +277,7 @@ module _ (𝒯 : Tables) where
     along : {x : Plain} {s s' : BlockState} → s ≡ s' → Reads 𝒯 j (state_of st) x s → Reads 𝒯 j (state_of st) x s'
     along {x = x} e R = subst (λ (s : BlockState). Reads 𝒯 j (state_of st) x s) e R
 
-    states-after : {st₁ st' : Reading} → ok st₁ ≡ ok st' → state_of st₁ ≡ state_of st'
+    states-after : {st₁ st' : Reading} → ◌≡◌ {A = Outcome Reading} (ok st₁) (ok st') → state_of st₁ ≡ state_of st'
     states-after e = ap state_of (ok_same e)
 
     pub plain-reads : (x : Plain) → PlainFine x → (st' : Reading) → read_plain 𝒯 place (suc j) x st ≡ ok st' → Reads 𝒯 j (state_of st) x (state_of st')
@@ -384,7 +384,7 @@ module _ (𝒯 : Tables) where
       is : r ≡ place question
       no : AccessNo 𝒯 (state_of st) (value_in st b) c x question
 
-    no-fit : (v : ℕ) → reference_of 𝒯 st.values (typed st.values v) ≡ Nothing → (t : ℕ) → Fits 𝒯 (known_of st.values) v (ref t) → ⊥
+    no-fit : (v : ℕ) → reference_of 𝒯 st.values (typed st.values v) ≡ None → (t : ℕ) → Fits 𝒯 (known_of st.values) v (ref t) → ⊥
     no-fit v e t F = not-to (sym e ∙ (reference-decides 𝒯 st.values (suc j) T.values v t).1 F)
 
     -- Q11, Q23 and Q12 of an access to a record of type t, the last two, and Q12 alone
@@ -408,7 +408,7 @@ module _ (𝒯 : Tables) where
     unfolding on_record with_reference provided
     access-refused x b c k r q = go (reference_in 𝒯 st b) refl q
       where
-        touching : (t : ℕ) → reference_in 𝒯 st b ≡ To t → c < 𝒯.size t → permits 𝒯 x t c ≡ true → asks_touch b (ok (k t)) ≡ refused r → RefusedAt x b c r
+        touching : (t : ℕ) → reference_in 𝒯 st b ≡ Some t → c < 𝒯.size t → permits 𝒯 x t c ≡ true → asks_touch b (ok (k t)) ≡ refused r → RefusedAt x b c r
         touching t e h u q =
             by_test (may_touch 𝒯 st (value_in st b)) (λ p. absurd (not-ok (sym (rw p at q))))
             (λ p. record {
@@ -419,7 +419,7 @@ module _ (𝒯 : Tables) where
                   (λ n. false≢true (sym p ∙ may-touch 𝒯 st (value_in st b) (rule-touch st (value_in st b) (inr n))));
             })
 
-        permitting : (t : ℕ) → reference_in 𝒯 st b ≡ To t → c < 𝒯.size t → asks_lock x b c (λ t. ok (k t)) t ≡ refused r → RefusedAt x b c r
+        permitting : (t : ℕ) → reference_in 𝒯 st b ≡ Some t → c < 𝒯.size t → asks_lock x b c (λ t. ok (k t)) t ≡ refused r → RefusedAt x b c r
         permitting t e h q =
             by_test (permits 𝒯 x t c) (λ p. touching t e h p (rw p at q))
             (λ p. record {
@@ -428,10 +428,10 @@ module _ (𝒯 : Tables) where
               no = is-locked x b c t (reference-fits 𝒯 st.values (value_in st b) t e) h p;
             })
 
-        go : (o : Reference) → reference_in 𝒯 st b ≡ o
+        go : (o : Maybe ℕ) → reference_in 𝒯 st b ≡ o
             → with_reference o (refused (place q10)) (asks_below x b c (λ t. ok (k t))) ≡ refused r → RefusedAt x b c r
-        go Nothing e q = record { question = q10; is = sym (refused-same {A = Reading} q); no = no_reference (no-fit (value_in st b) e) }
-        go (To t) e q =
+        go None e q = record { question = q10; is = sym (refused-same {A = Reading} q); no = no_reference (no-fit (value_in st b) e) }
+        go (Some t) e q =
             by_test (ltb c (𝒯.size t)) (λ p. permitting t e (ltb-true _ _ p) (rw p at q))
             (λ p. record {
               question = q11;
@@ -444,10 +444,10 @@ module _ (𝒯 : Tables) where
     unfolding on_record with_reference provided
     refused-access x b c k q (no_reference N) = go (reference_in 𝒯 st b) refl
       where
-        go : (o : Reference) → reference_in 𝒯 st b ≡ o
+        go : (o : Maybe ℕ) → reference_in 𝒯 st b ≡ o
             → with_reference o (refused (place q10)) (asks_below x b c k) ≡ refused (place q10)
-        go Nothing e = refl
-        go (To t) e = absurd (N t (reference-fits 𝒯 st.values (value_in st b) t e))
+        go None e = refl
+        go (Some t) e = absurd (N t (reference-fits 𝒯 st.values (value_in st b) t e))
     refused-access x b c k q (past_the_size {t = t} F h) =
         rw ((reference-decides 𝒯 st.values (suc j) T.values (value_in st b) t).1 F, le-ltb c (𝒯.size t) h) refl
     refused-access x b c k q (locked_field {t = t} F h u) =

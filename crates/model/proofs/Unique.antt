@@ -8,7 +8,7 @@ use native.Mathlib.Omega.{arith}
 use lib.Dec.{ltb, eqb}
 use lib.ListN.{length, get_or}
 use borrow.Author.Tests.{eqb-true, eqb-false, ltb-true, lt-ltb}
-use Rattle.model.specs.declared.Reference.TheVariants.{To, Nothing}
+use Rattle.std.specs.Prelude.{Some, None}
 use Rattle.model.specs.Question.{ok}
 use Rattle.model.specs.Types.{Dep, Ty, any, ref, maybe, tagged, present, same, span}
 use Rattle.model.specs.Table.{Tables, tables_of, Routine, routine_of, Code, last_at}
@@ -25,10 +25,10 @@ use Rattle.model.proofs.RulesDecide.{Chained, constant-known, known_constant}
 use Rattle.model.proofs.Tidy.{TidyValues, Tidy, tidy-on, plain-tidy, entry-tidy}
 use Rattle.model.proofs.Rows.{eight-words, words-eight}
 
-pub to_same : {t u : ℕ} → To t ≡ To u → t ≡ u
+pub to_same : {t u : ℕ} → Some t ≡ Some u → t ≡ u
 to_same e = cc
 
-pub not-to : {t : ℕ} → Nothing ≡ To t → ⊥
+pub not-to : {t : ℕ} → None ≡ Some t → ⊥
 not-to e = let z : ◌≡◌ {A = ℕ} 0 1 = cc in omega arith
 
 ref-not-span : {t k u : ℕ} {d e : Dep} → ref t ≡ span k u d e → ⊥
@@ -90,7 +90,7 @@ module _ (𝒯 : Tables) (vs : Values) where
 
   -- ---- the answer to Q10 is the type that the base fits
 
-  first-tag : (d : Dep) (ks : List ℕ) (t : ℕ) → ((k : ℕ) → Member k ks → Constant 𝒯 (known_of vs) d k) → first_tag 𝒯 ks ≡ To t → KnownTag 𝒯 (known_of vs) t d
+  first-tag : (d : Dep) (ks : List ℕ) (t : ℕ) → ((k : ℕ) → Member k ks → Constant 𝒯 (known_of vs) d k) → first_tag 𝒯 ks ≡ Some t → KnownTag 𝒯 (known_of vs) t d
   unfolding first_tag
   first-tag d [] t h e = absurd (not-to e)
   first-tag d (k ∷ ks) t h e =
@@ -98,7 +98,7 @@ module _ (𝒯 : Tables) (vs : Values) where
       (λ q. record { tag = k; known = h k first; stands = record { listed = ltb-true k _ q; names = to_same (rw q at e) } })
       (λ q. first-tag d ks t (λ x m. h x (later m)) (rw q at e))
 
-  reference-typed : (v : ℕ) (ty : Ty) (t : ℕ) → typed vs v ≡ ty → reference_of 𝒯 vs ty ≡ To t → Fits 𝒯 (known_of vs) v (ref t)
+  reference-typed : (v : ℕ) (ty : Ty) (t : ℕ) → typed vs v ≡ ty → reference_of 𝒯 vs ty ≡ Some t → Fits 𝒯 (known_of vs) v (ref t)
   unfolding reference_of
   reference-typed v any t h e = absurd (not-to e)
   reference-typed v (ref u) t h e = ref_ref (h ∙ ap ref (to_same e))
@@ -111,17 +111,17 @@ module _ (𝒯 : Tables) (vs : Values) where
       (λ q. ref_in {d = d} {e = f} (h ∙ ap (λ (x : ℕ). span x u d f) (eqb-true k 2 q) ∙ ap (λ (x : ℕ). span 2 x d f) (to_same (rw q at e))))
       (λ q. absurd (not-to (rw q at e)))
 
-  pub reference-fits : (v t : ℕ) → reference_of 𝒯 vs (typed vs v) ≡ To t → Fits 𝒯 (known_of vs) v (ref t)
+  pub reference-fits : (v t : ℕ) → reference_of 𝒯 vs (typed vs v) ≡ Some t → Fits 𝒯 (known_of vs) v (ref t)
   reference-fits v t e = reference-typed v (typed vs v) t refl e
 
   -- a list of which k is the only member, and k a tag
-  only-tag : (k : ℕ) (ks : List ℕ) → k < length 𝒯.tags → Member k ks → ((x : ℕ) → Member x ks → x ≡ k) → first_tag 𝒯 ks ≡ To (get_or 𝒯.tags k 0)
+  only-tag : (k : ℕ) (ks : List ℕ) → k < length 𝒯.tags → Member k ks → ((x : ℕ) → Member x ks → x ≡ k) → first_tag 𝒯 ks ≡ Some (get_or 𝒯.tags k 0)
   unfolding first_tag
   only-tag k [] l m h = elim m [ ]
   only-tag k (x ∷ ks) l m h = let e : x ≡ k = h x first in rw (e, lt-ltb k (length 𝒯.tags) l)
 
   module _ (g : ℕ) (T : TidyValues vs g) where
-    pub fits-reference : (v t : ℕ) → Fits 𝒯 (known_of vs) v (ref t) → reference_of 𝒯 vs (typed vs v) ≡ To t
+    pub fits-reference : (v t : ℕ) → Fits 𝒯 (known_of vs) v (ref t) → reference_of 𝒯 vs (typed vs v) ≡ Some t
     unfolding reference_of
     fits-reference v t (ref_ref e) = rw e
     fits-reference v t (ref_in e) = rw e
@@ -129,9 +129,9 @@ module _ (𝒯 : Tables) (vs : Values) where
         rw e
         (only-tag K.tag (constants_of vs d) K.stands.listed (known_constant 𝒯 vs (chained g T) d K.tag K.known)
         (λ x m. by_one_constant g T d x K.tag (constant-known 𝒯 vs d x m) K.known)
-        ∙ ap To K.stands.names)
+        ∙ ap Some K.stands.names)
 
-    pub reference-decides : (v t : ℕ) → (reference_of 𝒯 vs (typed vs v) ≡ To t) ↔ Fits 𝒯 (known_of vs) v (ref t)
+    pub reference-decides : (v t : ℕ) → (reference_of 𝒯 vs (typed vs v) ≡ Some t) ↔ Fits 𝒯 (known_of vs) v (ref t)
     reference-decides v t = (reference-fits v t, fits-reference v t)
 
 -- ---- every reading of a block is tidy

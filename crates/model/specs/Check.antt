@@ -1,8 +1,8 @@
 -- The check of a routine: Q1 to Q6, then Q7 to Q15 and Q23 instruction by instruction.
 use Rattle.std.specs.Prelude.{Bool, true, not, List, ℕ, zero, suc, ◌+◌, ltb, eqb, get_or}
 use Rattle.model.specs.declared.Verdict.{Verdict}
-use Rattle.model.specs.declared.Reference.{Reference}
-use Rattle.model.specs.declared.Reference.TheVariants.{To, Nothing}
+use Rattle.std.specs.Prelude.{Option}
+use Rattle.std.specs.Prelude.{Some, None}
 use Rattle.model.specs.Question.{◌or◌, Question, q10, q11, q12, q13, q14, q15, q23, Refusal, refusal}
 use Rattle.model.specs.Question.{Outcome, ok, refused, provided, ask, asked, then, first_no, verdict_of}
 use Rattle.model.specs.Table.{Tables, tables_of, locked, Code, Routine, routine_of, last_at}
@@ -18,13 +18,13 @@ abbrev pub value_in : Reading → ℕ → ℕ
 value_in st r = get_or st.registers r 0
 
 -- what follows for the record type of a reference, or else what having none comes to
-unfoldable pub with_reference : {A : Type 0} → Reference → A → (ℕ → A) → A
-with_reference (To t) x k = k t
-with_reference Nothing x k = x
+unfoldable pub with_reference : {A : Type 0} → Option ℕ → A → (ℕ → A) → A
+with_reference (Some t) x k = k t
+with_reference None x k = x
 
 module _ (𝒯 : Tables) where
   -- the record type that the value in a register is a reference to
-  abbrev pub reference_in : Reading → ℕ → Reference
+  abbrev pub reference_in : Reading → ℕ → Option ℕ
   reference_in st b = reference_of 𝒯 st.values (typed st.values (value_in st b))
 
   -- 01: 'No record open, or base the very value that opened it?'

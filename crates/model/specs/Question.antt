@@ -1,6 +1,13 @@
 -- Questions, the first no with its place, and the verdict made of it: what every call answers with.
-use Rattle.std.specs.Prelude.{◌≡◌, Bool, true, false, List, [], ◌∷◌, ℕ, zero, suc, ◌+◌, ◌≤◌, ◌<◌, eqb}
+use Rattle.std.specs.Prelude.{◌≡◌, Bool, true, false, Result, List, [], ◌∷◌, ℕ, zero, suc, ◌+◌, ◌≤◌, ◌<◌, eqb}
 use Rattle.model.specs.declared.Verdict.{Verdict}
+pub use Rattle.std.specs.Prelude.{Ok as ok, Err as refused}
+pub use Rattle.model.specs.declared.questions.Question.{Question}
+pub use Rattle.model.specs.declared.questions.Question.TheVariants.{TableLength as q1, FieldCount as q2, FieldType as q3, Tag as q4, BlockLength as q5, Annotation as q6}
+pub use Rattle.model.specs.declared.questions.Question.TheVariants.{Instruction as q7, BlockEnd as q8, Target as q9, Reference as q10, Offset as q11, OtherRecord as q12}
+pub use Rattle.model.specs.declared.questions.Question.TheVariants.{OpenRecord as q13, TakenEdge as q14, UntakenEdge as q15, StartBlock as q16, MemoryLength as q17, Address as q18}
+pub use Rattle.model.specs.declared.questions.Question.TheVariants.{Allocation as q19, Field as q20, Register as q21, LockedField as q23, OfferedRows as q32, NoChoice as q33}
+pub use Rattle.model.specs.declared.questions.Refusal.{Refusal}
 
 -- ---- tests
 
@@ -24,32 +31,6 @@ every zero i f = true
 every (suc n) i f = f i and every n (suc i) f
 
 -- ---- 01: 'The questions, in order', and those of document 02. 22 was the number of one that its card 6 took out, and is given to no other.
-
-pub data Question : Type 0 where
-  q1 : Question  -- are lengths whole rows within bounds?
-  q2 : Question  -- is each field count 1 to 8?
-  q3 : Question  -- is each record's type word well made, T existing, those past n zero?
-  q4 : Question  -- does each tag name a type?
-  q5 : Question  -- are block lengths 1 to 32 and their sum the code length?
-  q6 : Question  -- are annotations well made, T existing?
-  q7 : Question  -- known opcode, parts in range, divisor not 0?
-  q8 : Question  -- block-ending opcode at the block's end and only there?
-  q9 : Question  -- do the target of 10 to 12 and the block after 11 or 12 exist?
-  q10 : Question  -- does the base of a load or store hold a reference?
-  q11 : Question  -- c below the size?
-  q12 : Question  -- no record open, or base the very value that opened it?
-  q13 : Question  -- no record open?
-  q14 : Question  -- does the taken edge meet its block's annotation?
-  q15 : Question  -- the untaken edge?
-  q16 : Question  -- start block exists?
-  q17 : Question  -- memory length in bounds?
-  q18 : Question  -- address below the memory length?
-  q19 : Question  -- are allocations in order and inside memory?
-  q20 : Question  -- does every field's word meet its meaning?
-  q21 : Question  -- does each register meet that block's annotation?
-  q23 : Question  -- is the field of a store not locked? 02, card 1: 'asked after Q11 and before Q12'
-  q32 : Question  -- are at most 3 rows blank, and is the offered list well made? 02, card 12: 'after Q6 and before Q7'
-  q33 : Question  -- is some choice of offered rows accepted?
 
 abbrev pub number_of : Question → ℕ
 number_of q1 = 1
@@ -100,18 +81,12 @@ abbrev pub is_answer : ℕ → Bool
 is_answer n = pick (eqb n 0) true (is_number n)
 
 -- 01: 'The first no gives the number and a place of two numbers'
-pub record Refusal : Type 0 where
-  pub question : Question
-  pub first : ℕ
-  pub second : ℕ
-
 abbrev pub refusal : Question → ℕ → ℕ → Refusal
 refusal q a b = record { question = q; first = a; second = b }
 
 -- what follows a row of questions: a result where none had a no, else the first no
-pub data Outcome (A : Type 0) : Type 0 where
-  ok : A → Outcome A
-  refused : Refusal → Outcome A
+abbrev pub Outcome : Type 0 → Type 0
+Outcome A = Result A Refusal
 
 -- a question: what follows after a yes, or else what a no comes to
 unfoldable pub provided : {A : Type 0} → Bool → A → (Unit {0} → A) → A

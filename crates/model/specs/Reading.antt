@@ -1,7 +1,7 @@
 -- How a block is read: what values fit, loads and stores, the open record, edges.
 use Rattle.std.specs.Prelude.{Bool, true, false, List, [], ◌∷◌, ℕ, zero, suc, ◌*◌, ◌%◌, ltb, leb, eqb, length, get_or, set, replicate, ℤ, pos, negsuc}
-use Rattle.model.specs.declared.Reference.{Reference}
-use Rattle.model.specs.declared.Reference.TheVariants.{To, Nothing}
+use Rattle.std.specs.Prelude.{Option}
+use Rattle.std.specs.Prelude.{Some, None}
 use Rattle.model.specs.Question.{◌and◌, ◌or◌, pick, every}
 use Rattle.model.specs.Word.{with_kind, signed}
 use Rattle.model.specs.Types.{Dep, name, Ty, any, ref, maybe, tagged, present, same, span, type_of, rename}
@@ -93,18 +93,18 @@ module _ (𝒯 : Tables) where
   -- ---- 01: 'A base holds a reference if it fits some Ref T'
 
   -- the type of the first of the constants that is a tag
-  unfoldable pub first_tag : List ℕ → Reference
-  first_tag [] = Nothing
-  first_tag (k ∷ ks) = pick (ltb k (length 𝒯.tags)) (To (get_or 𝒯.tags k 0)) (first_tag ks)
+  unfoldable pub first_tag : List ℕ → Option ℕ
+  first_tag [] = None
+  first_tag (k ∷ ks) = pick (ltb k (length 𝒯.tags)) (Some (get_or 𝒯.tags k 0)) (first_tag ks)
 
-  unfoldable pub reference_of : Values → Ty → Reference
-  reference_of vs any = Nothing
-  reference_of vs (ref t) = To t
-  reference_of vs (maybe t) = Nothing
-  reference_of vs (tagged d) = Nothing
+  unfoldable pub reference_of : Values → Ty → Option ℕ
+  reference_of vs any = None
+  reference_of vs (ref t) = Some t
+  reference_of vs (maybe t) = None
+  reference_of vs (tagged d) = None
   reference_of vs (present d) = first_tag (constants_of vs d)
-  reference_of vs (same d) = Nothing
-  reference_of vs (span k t d e) = pick (eqb k 2) (To t) Nothing
+  reference_of vs (same d) = None
+  reference_of vs (span k t d e) = pick (eqb k 2) (Some t) None
 
 -- ---- the state of a reading
 

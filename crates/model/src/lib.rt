@@ -5,6 +5,9 @@ ghost use Rattle.std.specs.Prelude.{◌≡◌, eqb};
 
 pub mod limit;
 pub mod number;
+pub mod questions;
+
+pub use questions::{Question, Refusal};
 
 // The number of the first question with a no, 0 where there is none, and its place.
 #[derive(Clone, Copy)]
@@ -42,13 +45,6 @@ pub struct RunAnswer {
     pub index: u32,
     pub finished: u64,
     pub registers: [u32; 8],
-}
-
-// The record type that a value is a reference to.
-#[derive(Clone, Copy)]
-pub enum Reference {
-    To(u32),
-    Nothing,
 }
 
 // Whether a check had no no.

@@ -1,52 +1,36 @@
 -- Digits, one law for each way out of the code.
-use mathlib.Core.Bool.{true, false}
-use mathlib.Core.Path.{◌≡◌, refl, sym, ◌∙◌}
-use Prim.Native.Nat.{ℕ, ◌+◌, ◌*◌, ◌-◌, ◌/◌, ◌<◌, ◌≤◌}
-use native.Mathlib.Nat.{div-lt_iff_lt-mul, le-mul_of_pos_right, mul-le-mul}
+use mathlib.Core.Bool.{true, false, false≢true}
+use mathlib.Core.Path.{◌≡◌, refl}
+use Rattle.std.specs.Prelude.{Option, None, Some}
+use Prim.Native.Nat.{ℕ, ◌+◌, ◌*◌, ◌<◌, ◌≤◌}
+use native.Mathlib.Nat.{le-mul_of_pos_right, mul-le-mul}
 use native.Mathlib.Omega.{arith}
 use lib.Dec.{ltb, eqb}
-use borrow.Author.Tests.{ltb-true, ltb-false, lt-ltb, le-ltb, ne_eqb, eqb-true, eqb-false}
+use borrow.Author.Tests.{ltb-true, ltb-false, ne_eqb}
 use Rattle.model.proofs.Logic.{by_test}
 use Rattle.grammar.specs.Grammar.{word_end}
-use Rattle.grammar.specs.Phase.{GAP, ZERO, DIGITS, PREFIX, HEX, COMMENT, blank}
-use Rattle.numeral.specs.Digit.{ex, numeral, base, digit_to}
+use Rattle.grammar.specs.declared.Phase.{Phase}
+use Rattle.grammar.specs.declared.Phase.TheVariants.{Empty, Name, Gap, Zero, Digits, Prefix, Hex, Comment, Malformed}
+use Rattle.grammar.specs.Phase.{in_number, blank}
+use Rattle.numeral.specs.Digit.{ex, numeral, digit, base, digit_to}
 
 -- ---- digits
 
-module _ (b : ℕ) where
-  pub numeral-low : b < 48 → 16 ≡ numeral b
-  unfolding numeral
-  numeral-low l = rw (lt-ltb _ _ l)
+-- a digit of a radix is below it, and what is none is not
+module _ (r b : ℕ) where
+  pub digit-some : (d : ℕ) → Some d ≡ digit r b → (d ≡ numeral b) × (d < r)
+  unfolding digit
+  digit-some d e =
+      by_test (ltb (numeral b) r)
+      (λ q. let f : Some d ≡ Some (numeral b) = rw q at e in let g : d ≡ numeral b = cc in (g, omega (arith, ltb-true (numeral b) r q)))
+      (λ q. let f : ◌≡◌ {A = Option ℕ} (Some d) None = rw q at e in cc)
 
-  pub numeral-decimal : 48 ≤ b → b ≤ 57 → b - 48 ≡ numeral b
-  unfolding numeral
-  numeral-decimal l h = rw (le-ltb _ _ l, lt-ltb b 58 (omega arith))
-
-  pub numeral-between : 57 < b → b < 65 → 16 ≡ numeral b
-  unfolding numeral
-  numeral-between l h = rw (le-ltb b 48 (omega arith), le-ltb b 58 (omega arith), lt-ltb _ _ h)
-
-  pub numeral-capital : 65 ≤ b → b ≤ 70 → (b - 65) + 10 ≡ numeral b
-  unfolding numeral
-  numeral-capital l h =
-      rw (le-ltb b 48 (omega arith), le-ltb b 58 (omega arith), le-ltb b 65 l, lt-ltb b 71 (omega arith)) (omega arith)
-
-  pub numeral-middle : 70 < b → b < 97 → 16 ≡ numeral b
-  unfolding numeral
-  numeral-middle l h =
-      rw (le-ltb b 48 (omega arith), le-ltb b 58 (omega arith), le-ltb b 65 (omega arith), le-ltb b 71 (omega arith), lt-ltb b 97 h)
-
-  pub numeral-small : 97 ≤ b → b ≤ 102 → (b - 97) + 10 ≡ numeral b
-  unfolding numeral
-  numeral-small l h =
-      rw (le-ltb b 48 (omega arith), le-ltb b 58 (omega arith), le-ltb b 65 (omega arith), le-ltb b 71 (omega arith))
-      (rw (le-ltb b 97 l, lt-ltb b 103 (omega arith)) (omega arith))
-
-  pub numeral-high : 102 < b → 16 ≡ numeral b
-  unfolding numeral
-  numeral-high l =
-      rw (le-ltb b 48 (omega arith), le-ltb b 58 (omega arith), le-ltb b 65 (omega arith), le-ltb b 71 (omega arith))
-      (rw (le-ltb b 97 (omega arith), le-ltb b 103 (omega arith)))
+  pub digit_none : None ≡ digit r b → r ≤ numeral b
+  unfolding digit
+  digit_none e =
+      by_test (ltb (numeral b) r)
+      (λ q. let f : ◌≡◌ {A = Option ℕ} None (Some (numeral b)) = rw q at e in cc)
+      (λ q. ltb-false (numeral b) r q)
 
 -- a digit is no byte that is none
 digit_not : (b x : ℕ) → numeral b < 16 → 16 ≤ numeral x → b ≡ x → ⊥
@@ -63,68 +47,48 @@ digit-no-ex b h = ne_eqb b ex (digit_not b ex h (omega arith))
 
 -- ---- by phase
 
-module _ (p : ℕ) where
-  pub base-ten : p < PREFIX → 10 ≡ base p
-  unfolding base
-  base-ten h = rw (lt-ltb _ _ h)
+pub base-most : (p : Phase) → base p ≤ 16
+unfolding base
+base-most Prefix = omega arith
+base-most Hex = omega arith
+base-most _ = omega arith
 
-  pub base-sixteen : PREFIX ≤ p → 16 ≡ base p
-  unfolding base
-  base-sixteen h = rw (le-ltb _ _ h)
+pub base-some : (p : Phase) → 0 < base p
+unfolding base
+base-some Prefix = omega arith
+base-some Hex = omega arith
+base-some _ = omega arith
 
-  pub base-most : base p ≤ 16
-  base-most =
-      by_test (ltb p PREFIX)
-      (λ q. omega (arith, base-ten (ltb-true p PREFIX q)))
-      (λ q. omega (arith, base-sixteen (ltb-false p PREFIX q)))
+-- a number is decimal after its first digit
+pub record Decimal (p : Phase) : Type 0 where
+  pub inside : in_number p ≡ true
+  pub some : p ≡ Prefix → ⊥
+  pub ten : base p ≡ 10
 
-  pub base-some : 0 < base p
-  base-some =
-      by_test (ltb p PREFIX)
-      (λ q. omega (arith, base-ten (ltb-true p PREFIX q)))
-      (λ q. omega (arith, base-sixteen (ltb-false p PREFIX q)))
-
-module _ (p d : ℕ) where
-  pub to-hex : PREFIX ≤ p → HEX ≡ digit_to p d
-  unfolding digit_to
-  to-hex h = rw (le-ltb _ _ h)
-
-  pub to-more : p < PREFIX → (p ≡ GAP → ⊥) → DIGITS ≡ digit_to p d
-  unfolding digit_to
-  to-more h n = rw (lt-ltb _ _ h, ne_eqb _ _ n)
-
-  pub to-first : p ≡ GAP → (d ≡ 0 → ⊥) → DIGITS ≡ digit_to p d
-  unfolding digit_to
-  to-first e n = rw (e, ne_eqb _ _ n)
-
-  pub to-zero : p ≡ GAP → d ≡ 0 → ZERO ≡ digit_to p d
-  unfolding digit_to
-  to-zero e z = rw (e, z)
-
--- a number is decimal after its first digit, and number phases follow digits
-pub to-decimal : (d : ℕ) → (GAP < digit_to GAP d) × (digit_to GAP d < PREFIX)
+pub to-decimal : (d : ℕ) → Decimal (digit_to Gap d)
+unfolding digit_to base
 to-decimal d =
     by_test (eqb d 0)
-    (λ q. let z = to-zero GAP d refl (eqb-true d 0 q) in (omega arith, omega arith))
-    (λ q. let z = to-first GAP d refl (eqb-false d 0 q) in (omega arith, omega arith))
+    (λ q. rw q record { inside = refl; some = λ z. cc; ten = refl })
+    (λ q. rw q record { inside = refl; some = λ z. cc; ten = refl })
 
 -- the phase after a digit of a number, from the phase before it: a number's with the same base, and there is a digit
-pub record On (p q : ℕ) : Type 0 where
-  pub low : GAP < q
-  pub high : q < COMMENT
-  pub some : q ≡ PREFIX → ⊥
+pub record On (p q : Phase) : Type 0 where
+  pub inside : in_number q ≡ true
+  pub some : q ≡ Prefix → ⊥
   pub same : base q ≡ base p
 
-pub to-on : (p d : ℕ) → GAP < p → On p (digit_to p d)
-unfolding base
-to-on p d h =
-    by_test (ltb p PREFIX)
-    (λ q.
-    let e = to-more p d (ltb-true p PREFIX q) (λ z. omega arith) in
-    rw (← e) record { low = omega arith; high = omega arith; some = λ z. omega arith; same = rw q })
-    (λ q.
-    let e = to-hex p d (ltb-false p PREFIX q) in
-    rw (← e) record { low = omega arith; high = omega arith; some = λ z. omega arith; same = rw q })
+pub to-on : (p : Phase) (d : ℕ) → in_number p ≡ true → On p (digit_to p d)
+unfolding base digit_to
+to-on Prefix d h = record { inside = refl; some = λ z. cc; same = refl }
+to-on Hex d h = record { inside = refl; some = λ z. cc; same = refl }
+to-on Zero d h = record { inside = refl; some = λ z. cc; same = refl }
+to-on Digits d h = record { inside = refl; some = λ z. cc; same = refl }
+to-on Empty d h = absurd (false≢true h)
+to-on Name d h = absurd (false≢true h)
+to-on Gap d h = absurd (false≢true h)
+to-on Comment d h = absurd (false≢true h)
+to-on Malformed d h = absurd (false≢true h)
 
 -- ---- a value with one more digit
 
@@ -135,19 +99,3 @@ digit-grows v b d h = let g : v ≤ v * b = le-mul_of_pos_right v h in omega ari
 -- a word with one more digit is far below 2^64
 pub digit-most : (v b : ℕ) → v < word_end → b ≤ 16 → v * b ≤ 4294967295 * 16
 digit-most v b h k = let g : v ≤ 4294967295 = omega arith in mul-le-mul g k
-
--- a product is at most what the quotient says
-pub times-most : (m v b : ℕ) → 0 < b → v ≤ m / b → v * b ≤ m
-times-most m v b h l =
-    by_test (ltb m (v * b))
-    (λ q. let g : m / b < v = (div-lt_iff_lt-mul h).1 (ltb-true m (v * b) q) in absurd (omega arith))
-    (λ q. ltb-false m (v * b) q)
-
-pub times-over : (m v b d : ℕ) → 0 < b → m / b < v → true ≡ ltb m (v * b + d)
-times-over m v b d h l = let g : m < v * b = (div-lt_iff_lt-mul h).0 l in sym (lt-ltb m (v * b + d) (omega arith))
-
-pub plus-over : (m t d : ℕ) → t ≤ m → ltb (m - t) d ≡ ltb m (t + d)
-plus-over m t d h =
-    by_test (ltb (m - t) d)
-    (λ q. let l = ltb-true (m - t) d q in q ∙ sym (lt-ltb m (t + d) (omega arith)))
-    (λ q. let l = ltb-false (m - t) d q in q ∙ sym (le-ltb m (t + d) (omega arith)))

@@ -1,160 +1,128 @@
 // Numbers: the digits, what a digit counts by and leads to, and a number in one piece with the blank that ends it.
 #![tactic(auto)]
 
-ghost use Rattle.std.specs.Prelude.{◌≡◌, ◌+◌, ◌-◌, ◌*◌, ◌<◌, ◌≤◌, ltb, drop};
-ghost use Rattle.numeral.specs.Digit.{numeral, base, digit_to};
-ghost use Rattle.numeral.specs.Scan.{scan, scan_hex, scan_number, scanned, closed};
+ghost use Rattle.std.specs.Prelude.{◌≡◌, ◌+◌, ◌*◌, ◌<◌, ◌≤◌, None, Some, length, nat_lt};
+ghost use Rattle.model.specs.Question.{pick};
+ghost use Rattle.numeral.specs.Digit.{base, digit, digit_to};
+ghost use Rattle.numeral.specs.Scan.{scan, scan_hex, scan_number, closed};
 
-use grammar::{DIGITS, GAP, HEX, PREFIX, WORD_MOST, ZERO};
+use grammar::{Phase, WORD_MOST};
 
 // ---- digits
 
-// The digit that a byte is, 16 where it is none.
-pub fn numeral(byte: u8) -> u64
-    ensures { result ≡ numeral byte }
+// The hexadecimal digit that a byte is.
+#[tactic(auto, unfolding(crate::specs::Digit::digit, crate::specs::Digit::numeral))]
+fn numeral(byte: u8) -> Option<u64>
+    ensures { result ≡ digit 16 byte }
 {
-    if byte < b'0' {
-        return 16;
+    match byte {
+        b'0'..=b'9' => Some((byte - b'0') as u64),
+        b'A'..=b'F' => Some((byte - b'A') as u64 + 10),
+        b'a'..=b'f' => Some((byte - b'a') as u64 + 10),
+        _ => None,
     }
-    if byte <= b'9' {
-        return (byte - b'0') as u64;
-    }
-    if byte < b'A' {
-        return 16;
-    }
-    if byte <= b'F' {
-        return (byte - b'A') as u64 + 10;
-    }
-    if byte < b'a' {
-        return 16;
-    }
-    if byte <= b'f' {
-        return (byte - b'a') as u64 + 10;
-    }
-    16
+}
+
+// The digit that a byte is in a radix.
+#[tactic(auto, unfolding(crate::specs::Digit::digit))]
+pub fn digit(byte: u8, radix: u64) -> Option<u64>
+    requires { radix ≤ 16 }
+    ensures { result ≡ digit radix byte }
+{
+    numeral(byte).filter(|d| *d < radix)
 }
 
 // What a digit counts by in a phase.
-pub fn base(phase: u32) -> u64
+#[tactic(auto, unfolding(crate::specs::Digit::base))]
+pub fn base(phase: Phase) -> u64
     ensures { result ≡ base phase }
 {
-    if phase < PREFIX {
-        return 10;
+    match phase {
+        Phase::Empty | Phase::Name | Phase::Gap | Phase::Zero | Phase::Digits => 10,
+        _ => 16,
     }
-    16
 }
 
 // The phase after a digit.
-pub fn digit_to(phase: u32, d: u64) -> u32
+#[tactic(auto, unfolding(crate::specs::Digit::digit_to))]
+pub fn digit_to(phase: Phase, d: u64) -> Phase
     ensures { result ≡ digit_to phase d }
 {
-    if PREFIX <= phase {
-        return HEX;
+    match phase {
+        Phase::Gap if d == 0 => Phase::Zero,
+        Phase::Empty | Phase::Name | Phase::Gap | Phase::Zero | Phase::Digits => Phase::Digits,
+        _ => Phase::Hex,
     }
-    if phase != GAP {
-        return DIGITS;
-    }
-    if d != 0 {
-        return DIGITS;
-    }
-    ZERO
 }
 
-// Whether a value with one more digit is over the most.
-pub fn over(most: u64, value: u64, base: u64, d: u64) -> bool
-    requires { 0 < base }
-    ensures { result ≡ ltb most (value * base + d) }
+// A value with one more digit, where that is at most the most.
+pub fn grown(most: u64, value: u64, base: u64, d: u64) -> Option<u64>
+    ensures { result ≡ pick (nat_lt most (value * base + d)) None (Some (value * base + d)) }
 {
-    if most / base < value {
-        return true;
-    }
-    most - value * base < d
+    value
+        .checked_mul(base)?
+        .checked_add(d)
+        .filter(|grown| *grown <= most)
 }
 
 // ---- a number in one piece
 
+// A number and the blank after it: how many bytes, and the value.
 #[derive(Clone, Copy)]
 pub struct Found {
     pub count: usize,
     pub value: u64,
 }
 
-// There is no such number.
-pub fn not_found() -> Found
-    ensures { scanned result.count result.value ≡ scanned 0 0 }
+// A number's digits come to a value, and before the byte after them are so many bytes: it is found if that is a blank and there was a digit,
+// where so many of the bytes are no digits.
+#[tactic(auto, unfolding(crate::specs::Scan::closed))]
+fn closed(byte: u8, before: usize, read: usize, value: u64) -> Option<Found>
+    requires { read < 18446744073709551615 }
+    ensures { result ≡ closed before value read byte }
 {
-    Found { count: 0, value: 0 }
+    if read == before || !grammar::is_blank(byte) {
+        return None;
+    }
+    Some(Found {
+        count: read + 1,
+        value,
+    })
 }
 
-// The digits of a number that begins at a place, the first of them at another, end before byte i: it is found if that is a blank and
-// there was a digit.
-fn closed(byte: u8, at: usize, from: usize, i: usize, value: u64) -> Found
-    requires { (at ≤ from) × (from ≤ i) × (i < 18446744073709551615) }
-    ensures { scanned result.count result.value ≡ closed (from - at) value (i - at) byte }
-{
-    if !grammar::is_blank(byte) {
-        return not_found();
-    }
-    if i == from {
-        return not_found();
-    }
-    let past = i + 1;
-    let count = past - at;
-    Found { count, value }
-}
-
-// The digits of a number that begins at a place, from another place on, and the blank that ends them; count 0 where there is no such thing.
-fn digits(bytes: &[u8], at: usize, from: usize, radix: u64) -> Found
-    requires { (at ≤ from) × (radix ≤ 16) }
-    ensures { scanned result.count result.value ≡ scan radix (from - at) 0 (from - at) (drop from bytes.now) }
+// The digits of a number and the blank that ends them, after so many bytes that are no digits.
+fn digits(bytes: &[u8], before: usize, radix: u64) -> Option<Found>
+    requires { (radix ≤ 16) × (before + length bytes.now < 18446744073709551616) }
+    ensures { result ≡ scan radix before 0 before bytes.now }
 {
     let mut value = 0u64;
-    let mut i = from;
-    while i < bytes.len() {
-        let byte = bytes[i];
-        let d = numeral(byte);
-        if radix <= d {
-            return closed(byte, at, from, i, value);
-        }
+    for (i, &byte) in bytes.iter().enumerate() {
+        let Some(d) = digit(byte, radix) else {
+            return closed(byte, before, before + i, value);
+        };
         value = value * radix + d;
         if WORD_MOST < value {
-            return not_found();
+            return None;
         }
-        i += 1;
     }
-    not_found()
+    None
 }
 
-// A hexadecimal number at a place.
-fn hex(bytes: &[u8], at: usize) -> Found
-    ensures { scanned result.count result.value ≡ scan_hex (drop at bytes.now) }
+// A hexadecimal number at the beginning.
+#[tactic(auto, unfolding(crate::specs::Scan::scan_hex))]
+fn hex(bytes: &[u8]) -> Option<Found>
+    ensures { result ≡ scan_hex bytes.now }
 {
-    if bytes.len() <= at {
-        return not_found();
+    match bytes {
+        [b'0', b'x', rest @ ..] => digits(rest, 2, 16),
+        _ => None,
     }
-    let second = at + 1;
-    if bytes.len() <= second {
-        return not_found();
-    }
-    let zero = bytes[at];
-    if zero != b'0' {
-        return not_found();
-    }
-    let mark = bytes[second];
-    if mark != b'x' {
-        return not_found();
-    }
-    let from = second + 1;
-    digits(bytes, at, from, 16)
 }
 
-// A number at a place. Most are decimal, and what is hexadecimal stops being decimal at its second byte: so decimal is tried first.
-pub fn token(bytes: &[u8], at: usize) -> Found
-    ensures { scanned result.count result.value ≡ scan_number (drop at bytes.now) }
+// A number at the beginning. Most are decimal, and what is hexadecimal stops being decimal at its second byte: so decimal is tried first.
+#[tactic(auto, unfolding(crate::specs::Scan::scan_number))]
+pub fn token(bytes: &[u8]) -> Option<Found>
+    ensures { result ≡ scan_number bytes.now }
 {
-    let decimal = digits(bytes, at, at, 10);
-    if decimal.count == 0 {
-        return hex(bytes, at);
-    }
-    decimal
+    digits(bytes, 0, 10).or_else(|| hex(bytes))
 }

@@ -1,4 +1,3 @@
-pub mod Appending
 pub mod Decimals
 pub mod Fields
 pub mod Filling

@@ -1,2 +1,2 @@
-pub mod Appended
 pub mod Digits
+pub mod Room

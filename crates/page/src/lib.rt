@@ -2,83 +2,90 @@
 // the page is written out at the end.
 #![tactic(auto)]
 
-ghost use Rattle.std.specs.Prelude.{[], ◌∷◌, ◌≤◌, length};
+ghost use Rattle.std.specs.Prelude.{◌≡◌, [], ◌∷◌, ◌++◌, ◌≤◌, length};
+ghost use Rattle.std.specs.Fn.{FnOnceReturnsAtMut};
 ghost use Rattle.protocol.specs.Text.{decimal, fields, verdict_text};
-ghost use Rattle.output.specs.Appended.{Appended};
 
 use model::Verdict;
+use output::Buffer;
 use std::io;
 
 // Half of the buffer: what is put at one time is no longer, and nothing is put after as much.
-pub const HALF: usize = 1000000;
+const HALF: usize = 1000000;
 
-pub fn text(out: &mut [u8; output::BUFFER], n: usize, bytes: &[u8]) -> usize
-    ensures { n ≤ 1000000 → length bytes.now ≤ 1000000 → Appended out.old n bytes.now result out.new }
-{
-    if HALF < n {
-        return n;
-    }
-    if HALF < bytes.len() {
-        return n;
-    }
-    output::text(out, n, bytes)
+// The words that are put at one time: eleven bytes each.
+const WORDS: usize = 90000;
+
+#[derive(Drop)]
+pub struct Page {
+    pub buffer: Buffer,
 }
 
-pub fn put(out: &mut [u8; output::BUFFER], n: usize, byte: u8) -> usize
-    ensures { n ≤ 1000000 → Appended out.old n (byte ∷ []) result out.new }
-{
-    if HALF < n {
-        return n;
+impl Page {
+    // Inlined, as the buffer's own.
+    #[inline(always)]
+    pub fn new() -> Self
+        ensures { result.buffer ≡ [] }
+    {
+        Page {
+            buffer: Buffer::new(),
+        }
     }
-    output::put(out, n, byte)
-}
 
-pub fn line_end(out: &mut [u8; output::BUFFER], n: usize) -> usize
-    ensures { n ≤ 1000000 → Appended out.old n (10 ∷ []) result out.new }
-{
-    put(out, n, b'\n')
-}
-
-pub fn number(out: &mut [u8; output::BUFFER], n: usize, value: u64) -> usize
-    ensures { n ≤ 1000000 → Appended out.old n (decimal value) result out.new }
-{
-    if HALF < n {
-        return n;
+    // Puts what is put at one time, if no more than half of the buffer is held.
+    pub fn add<F: FnOnce(&mut Buffer)>(&mut self, put: F)
+        requires { (b : _) → length b.now ≤ 1000000 → F.pre put b }
+        ensures { length self.old.buffer ≤ 1000000 → FnOnceReturnsAtMut F.FnOnce put self.old.buffer tt self.new.buffer }
+    {
+        if self.buffer.len() <= HALF {
+            put(&mut self.buffer);
+        }
     }
-    output::number(out, n, value)
-}
 
-// NUMBER A B
-pub fn verdict(out: &mut [u8; output::BUFFER], n: usize, v: Verdict) -> usize
-    ensures { n ≤ 1000000 → Appended out.old n (verdict_text v) result out.new }
-{
-    if HALF < n {
-        return n;
+    pub fn text(&mut self, bytes: &[u8])
+        ensures { length self.old.buffer ≤ 1000000 → length bytes.now ≤ 1000000 → self.new.buffer ≡ self.old.buffer ++ bytes.now }
+    {
+        if bytes.len() <= HALF {
+            self.add(|buffer: &mut Buffer| buffer.text(bytes));
+        }
     }
-    output::verdict(out, n, v)
-}
 
-// A blank before each word of a list.
-pub fn words(out: &mut [u8; output::BUFFER], n: usize, list: &[u32]) -> usize
-    ensures { n ≤ 1000000 → length list.now ≤ 90000 → Appended out.old n (fields list.now) result out.new }
-{
-    if HALF < n {
-        return n;
+    pub fn put(&mut self, byte: u8)
+        ensures { length self.old.buffer ≤ 1000000 → self.new.buffer ≡ self.old.buffer ++ byte ∷ [] }
+    {
+        self.add(|buffer: &mut Buffer| buffer.put(byte));
     }
-    if 90000 < list.len() {
-        return n;
-    }
-    output::words(out, n, list)
-}
 
-fn front(bytes: &[u8], n: usize) -> &[u8] {
-    if n <= bytes.len() {
-        return &bytes[..n];
+    pub fn line_end(&mut self)
+        ensures { length self.old.buffer ≤ 1000000 → self.new.buffer ≡ self.old.buffer ++ 10 ∷ [] }
+    {
+        self.put(b'\n');
     }
-    b""
-}
 
-// Writes the page out.
-pub fn write(to: &impl Print, out: &[u8; output::BUFFER], n: usize) -> io::Result<()> {
-    to.write_all(front(out, n))
+    pub fn number(&mut self, value: u64)
+        ensures { length self.old.buffer ≤ 1000000 → self.new.buffer ≡ self.old.buffer ++ decimal value }
+    {
+        self.add(|buffer: &mut Buffer| buffer.number(value));
+    }
+
+    // NUMBER A B
+    pub fn verdict(&mut self, v: Verdict)
+        ensures { length self.old.buffer ≤ 1000000 → self.new.buffer ≡ self.old.buffer ++ verdict_text v }
+    {
+        self.add(|buffer: &mut Buffer| buffer.verdict(v));
+    }
+
+    // A blank before each word of a list.
+    pub fn words(&mut self, list: &[u32])
+        ensures { length self.old.buffer ≤ 1000000 → length list.now ≤ 90000 → self.new.buffer ≡ self.old.buffer ++ fields list.now }
+    {
+        if list.len() <= WORDS {
+            self.add(|buffer: &mut Buffer| buffer.words(list));
+        }
+    }
+
+    // Writes the page out.
+    pub fn write(&self, to: &impl Print) -> io::Result<()> {
+        to.write_all(self.buffer.held())
+    }
 }

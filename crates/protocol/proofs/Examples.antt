@@ -1,6 +1,6 @@
 -- The examples hold: each line is read, and says what is stated.
 use Rattle.std.proofs.Common.{refl}
-use Rattle.grammar.specs.Grammar.{names, forms, part_at, bound, wanted, is_words, word_parts, long_parts, begins, begun, named}
+use Rattle.grammar.specs.Grammar.{row_of, part_at, bound, wanted, is_words, word_parts, long_parts, begins, begun, named}
 use Rattle.grammar.specs.Phase.{blank}
 use Rattle.numeral.specs.Digit.{numeral, base, digit_to}
 use Rattle.reader.specs.Reader.{malformed, digit_read, number_read, after, finished, word_taken, count_taken, long_taken, taken}
@@ -11,7 +11,7 @@ use Rattle.protocol.proofs.Numbers.{reads-cut}
 
 pub examples : Examples
 unfolding line_says said start at_end settled reads step act first_read name_read blank_read number_read digit_read taken long_taken count_taken
-    word_taken finished after wanted bound malformed digit_to base numeral blank named begun begins part_at forms names is_words word_parts long_parts
+    word_taken finished after wanted bound malformed digit_to base numeral blank named begun begins part_at row_of is_words word_parts long_parts
 examples = record {
   empty = refl;
   blanks = refl;

@@ -1,16 +1,19 @@
 -- What a line says does not depend on what an earlier line has left in the pools.
-use Rattle.std.proofs.Common.{◌≡◌, ℕ, zero, suc, ◌+◌, ◌-◌, ◌*◌, ◌<◌, ◌≤◌, eqb, ltb, List, [], ◌∷◌, ◌++◌, length, take, drop, set, replicate, sym, refl, ap, ◌∙◌, add-one, arith, length-set, take-take, take-suc-set, ltb-true}
+use Rattle.std.proofs.Common.{◌≡◌, ℕ, zero, suc, ◌+◌, ◌-◌, ◌*◌, ◌<◌, ◌≤◌, eqb, ltb, Option, None, Some, List, [], ◌∷◌, ◌++◌, length, take, drop, set, replicate, sym, refl, ap, ◌∙◌, add-one, arith, length-set, take-take, take-suc-set, ltb-true}
 use native.Mathlib.Nat.{sub-zero}
 use lib.ListN.{length-replicate}
 use lib.Seq.{take-nil}
 use Rattle.reader.specs.declared.Line.{Line}
-use Rattle.grammar.specs.Grammar.{pool, parts_most, longs_most, table, wanted, names, named, begun}
-use Rattle.grammar.specs.Phase.{EMPTY, NAME, GAP, ZERO, PREFIX, COMMENT, hash, space, blank}
+use Rattle.grammar.specs.declared.Form.{Form}
+use Rattle.grammar.specs.Grammar.{pool, parts_most, longs_most, is_table, wanted, named, begun}
+use Rattle.grammar.specs.declared.Phase.{Phase}
+use Rattle.grammar.specs.declared.Phase.TheVariants.{Empty, Name, Gap, Zero, Prefix, Comment, Malformed}
+use Rattle.grammar.specs.Phase.{hash, space, blank}
 use Rattle.numeral.specs.Digit.{ex, numeral, base}
-use Rattle.reader.specs.Reader.{Reader, reader, on_line, fresh_line, past, line_of, malformed, kind, bound_of, grown}
-use Rattle.reader.specs.Reader.{digit_read, number_read, after, finished, word_taken, count_taken, long_taken, taken, letters_end}
-use Rattle.reader.specs.Reader.{name_read, first_read, blank_read, act, step, reads, settled, at_end}
-use Rattle.protocol.specs.Said.{slice, cuts, parts_of, said, start, line_says, PoolsForgotten}
+use Rattle.reader.specs.Reader.{Reader, reader_over, on_line, fresh_line, past, line_of, malformed, kind, bound_of, grown}
+use Rattle.reader.specs.Reader.{digit_read, number_in, number_read, after, finished, word_taken, count_taken, long_taken, taken, letters_end}
+use Rattle.reader.specs.Reader.{name_ended, name_read, first_read, blank_in, blank_read, act_in, act, step, reads, settled_in, settled, at_end}
+use Rattle.protocol.specs.Said.{slice, cuts, said_in, said, start, line_says, PoolsForgotten}
 use Rattle.model.proofs.Logic.{by_test}
 
 -- ---- lists
@@ -76,10 +79,10 @@ record Alike (r s : Reader) : Type 0 where
   same : Same r.line.used r.line.marked r.line.stored r.words r.ends r.longs s.words s.ends s.longs
 
 module _ (l : Line) (w e n w' e' n' : List ℕ) (S : Same l.used l.marked l.stored w e n w' e' n') where
-  alike-line : (x : Line) → x.used ≡ l.used → x.marked ≡ l.marked → x.stored ≡ l.stored → Alike (reader x w e n) (reader x w' e' n')
+  alike-line : (x : Line) → x.used ≡ l.used → x.marked ≡ l.marked → x.stored ≡ l.stored → Alike (reader_over x w e n) (reader_over x w' e' n')
   alike-line x u m k = record { line = refl; same = rw (u, m, k) S }
 
-  alike-first : (x : Line) → x.used ≡ 0 → x.marked ≡ 0 → x.stored ≡ 0 → Alike (reader x w e n) (reader x w' e' n')
+  alike-first : (x : Line) → x.used ≡ 0 → x.marked ≡ 0 → x.stored ≡ 0 → Alike (reader_over x w e n) (reader_over x w' e' n')
   unfolding Below
   alike-first x u m k = record {
     line = refl;
@@ -90,7 +93,7 @@ module _ (l : Line) (w e n w' e' n' : List ℕ) (S : Same l.used l.marked l.stor
 
 alike-finished : (l : Line) (u : ℕ) (w e n w' e' n' : List ℕ) → l.used ≤ u → Below l.used (take l.marked e)
     → Same u l.marked l.stored w e n w' e' n'
-    → Alike (finished (reader l w e n) u) (finished (reader l w' e' n') u)
+    → Alike (finished (reader_over l w e n) u) (finished (reader_over l w' e' n') u)
 unfolding finished after malformed
 alike-finished l u w e n w' e' n' h b S =
     by_test (ltb l.marked parts_most)
@@ -133,7 +136,7 @@ module _ (l : Line) (w e n w' e' n' : List ℕ) (S : Same l.used l.marked l.stor
     right = record { words = length-set w' _ _ ∙ S.right.words; ends = S.right.ends; longs = S.right.longs };
   }
 
-  alike-word : Alike (word_taken (reader l w e n)) (word_taken (reader l w' e' n'))
+  alike-word : Alike (word_taken (reader_over l w e n)) (word_taken (reader_over l w' e' n'))
   unfolding word_taken malformed
   alike-word =
       by_test (ltb l.used pool)
@@ -144,14 +147,14 @@ module _ (l : Line) (w e n w' e' n' : List ℕ) (S : Same l.used l.marked l.stor
       (λ z. rw (q, z) record { line = refl; same = u }))
       (λ q. rw q (alike-line l w e n w' e' n' S _ refl refl refl))
 
-  alike-count : Alike (count_taken (reader l w e n)) (count_taken (reader l w' e' n'))
+  alike-count : Alike (count_taken (reader_over l w e n)) (count_taken (reader_over l w' e' n'))
   unfolding count_taken
   alike-count =
       by_test (eqb l.value 0)
       (λ q. rw q (alike-finished l l.used w e n w' e' n' (omega arith) S.small S))
       (λ q. rw q (alike-line l w e n w' e' n' S _ refl refl refl))
 
-  alike-long : Alike (long_taken (reader l w e n)) (long_taken (reader l w' e' n'))
+  alike-long : Alike (long_taken (reader_over l w e n)) (long_taken (reader_over l w' e' n'))
   unfolding long_taken after malformed
   alike-long =
       by_test (ltb l.stored longs_most)
@@ -168,16 +171,16 @@ module _ (l : Line) (w e n w' e' n' : List ℕ) (S : Same l.used l.marked l.stor
       })
       (λ q. rw q (alike-line l w e n w' e' n' S _ refl refl refl))
 
-  alike-taken : Alike (taken (reader l w e n)) (taken (reader l w' e' n'))
+  alike-taken : Alike (taken (reader_over l w e n)) (taken (reader_over l w' e' n'))
   unfolding taken
   alike-taken =
       by_test (ltb 0 l.left)
       (λ q. rw q alike-word)
-      (λ q. by_test (eqb (kind l) table) (λ z. rw (q, z) alike-count) (λ z. rw (q, z) alike-long))
+      (λ q. by_test (is_table (kind l)) (λ z. rw (q, z) alike-count) (λ z. rw (q, z) alike-long))
 
   -- ---- a byte
 
-  alike-digit : (b : ℕ) → Alike (reader (digit_read l b) w e n) (reader (digit_read l b) w' e' n')
+  alike-digit : (b : ℕ) → Alike (reader_over (digit_read l b) w e n) (reader_over (digit_read l b) w' e' n')
   unfolding digit_read malformed
   alike-digit b =
       by_test (ltb (numeral b) (base l.phase))
@@ -186,29 +189,34 @@ module _ (l : Line) (w e n w' e' n' : List ℕ) (S : Same l.used l.marked l.stor
       (λ z. rw (q, z) (alike-line l w e n w' e' n' S _ refl refl refl)))
       (λ q. rw q (alike-line l w e n w' e' n' S _ refl refl refl))
 
-  alike-number : (b : ℕ) → Alike (reader (number_read l b) w e n) (reader (number_read l b) w' e' n')
-  unfolding number_read
-  alike-number b =
-      by_test (eqb l.phase ZERO)
-      (λ q. by_test (eqb b ex)
-      (λ z. rw (q, z) (alike-line l w e n w' e' n' S _ refl refl refl))
-      (λ z. rw (q, z) (alike-digit b)))
-      (λ q. rw q (alike-digit b))
+  alike-number-in : (p : Phase) (b : ℕ) → Alike (reader_over (number_in p l b) w e n) (reader_over (number_in p l b) w' e' n')
+  alike-number-in Zero b =
+      by_test (eqb b ex)
+      (λ z. rw z (alike-line l w e n w' e' n' S _ refl refl refl))
+      (λ z. rw z (alike-digit b))
+  alike-number-in _ b = alike-digit b
 
-  alike-name : (b : ℕ) → Alike (reader (name_read l b) w e n) (reader (name_read l b) w' e' n')
+  alike-number : (b : ℕ) → Alike (reader_over (number_read l b) w e n) (reader_over (number_read l b) w' e' n')
+  unfolding number_read
+  alike-number b = alike-number-in l.phase b
+
+  alike-ended : (f : Option Form) → Alike (reader_over (name_ended l f) w e n) (reader_over (name_ended l f) w' e' n')
+  unfolding malformed
+  alike-ended None = alike-line l w e n w' e' n' S _ refl refl refl
+  alike-ended (Some form) = alike-first l w e n w' e' n' S _ refl refl refl
+
+  alike-name : (b : ℕ) → Alike (reader_over (name_read l b) w e n) (reader_over (name_read l b) w' e' n')
   unfolding name_read malformed
   alike-name b =
       by_test (blank b)
-      (λ q. by_test (ltb (named names l.value) (length names))
-      (λ z. rw (q, z) (alike-first l w e n w' e' n' S _ refl refl refl))
-      (λ z. rw (q, z) (alike-line l w e n w' e' n' S _ refl refl refl)))
+      (λ q. rw q (alike-ended (named l.value)))
       (λ q. by_test (ltb l.value letters_end)
-      (λ z. by_test (begun names (l.value * 256 + b))
+      (λ z. by_test (begun (l.value * 256 + b))
       (λ y. rw (q, z, y) (alike-line l w e n w' e' n' S _ refl refl refl))
       (λ y. rw (q, z, y) (alike-line l w e n w' e' n' S _ refl refl refl)))
       (λ z. rw (q, z) (alike-line l w e n w' e' n' S _ refl refl refl)))
 
-  alike-begun : (b : ℕ) → Alike (reader (first_read l b) w e n) (reader (first_read l b) w' e' n')
+  alike-begun : (b : ℕ) → Alike (reader_over (first_read l b) w e n) (reader_over (first_read l b) w' e' n')
   unfolding first_read
   alike-begun b =
       by_test (blank b)
@@ -217,25 +225,26 @@ module _ (l : Line) (w e n w' e' n' : List ℕ) (S : Same l.used l.marked l.stor
       (λ z. rw (q, z) (alike-line l w e n w' e' n' S _ refl refl refl))
       (λ z. rw (q, z) (alike-name b)))
 
-  alike-blank : Alike (blank_read (reader l w e n)) (blank_read (reader l w' e' n'))
-  unfolding blank_read malformed
-  alike-blank =
-      by_test (eqb l.phase GAP)
-      (λ q. rw q (alike-line l w e n w' e' n' S l refl refl refl))
-      (λ q. by_test (eqb l.phase PREFIX)
-      (λ z. rw (q, z) (alike-line l w e n w' e' n' S _ refl refl refl))
-      (λ z. rw (q, z) alike-taken))
+  alike-blank-in : (p : Phase) → Alike (blank_in p (reader_over l w e n)) (blank_in p (reader_over l w' e' n'))
+  unfolding malformed
+  alike-blank-in Gap = alike-line l w e n w' e' n' S l refl refl refl
+  alike-blank-in Prefix = alike-line l w e n w' e' n' S _ refl refl refl
+  alike-blank-in _ = alike-taken
 
-  alike-act : (b : ℕ) → Alike (act (reader l w e n) b) (act (reader l w' e' n') b)
+  alike-blank : Alike (blank_read (reader_over l w e n)) (blank_read (reader_over l w' e' n'))
+  unfolding blank_read
+  alike-blank = alike-blank-in l.phase
+
+  alike-act-in : (p : Phase) (b : ℕ) → Alike (act_in p (reader_over l w e n) b) (act_in p (reader_over l w' e' n') b)
+  alike-act-in Empty b = alike-begun b
+  alike-act-in Name b = alike-name b
+  alike-act-in Comment b = alike-line l w e n w' e' n' S l refl refl refl
+  alike-act-in Malformed b = alike-line l w e n w' e' n' S l refl refl refl
+  alike-act-in _ b = by_test (blank b) (λ x. rw x alike-blank) (λ x. rw x (alike-number b))
+
+  alike-act : (b : ℕ) → Alike (act (reader_over l w e n) b) (act (reader_over l w' e' n') b)
   unfolding act
-  alike-act b =
-      by_test (eqb l.phase EMPTY)
-      (λ q. rw q (alike-begun b))
-      (λ q. by_test (eqb l.phase NAME)
-      (λ z. rw (q, z) (alike-name b))
-      (λ z. by_test (ltb l.phase COMMENT)
-      (λ y. by_test (blank b) (λ x. rw (q, z, y, x) alike-blank) (λ x. rw (q, z, y, x) (alike-number b)))
-      (λ y. rw (q, z, y) (alike-line l w e n w' e' n' S l refl refl refl))))
+  alike-act b = alike-act-in l.phase b
 
 -- ---- a line
 
@@ -262,12 +271,15 @@ unfolding reads
 alike-reads r s [] A = A
 alike-reads r s (b ∷ bs) A = alike-reads (step r b) (step s b) bs (alike-step r s b A)
 
+settled-counts-in : (p : Phase) (l : Line)
+    → ((settled_in p l).used ≡ l.used) × ((settled_in p l).marked ≡ l.marked) × ((settled_in p l).stored ≡ l.stored)
+unfolding malformed
+settled-counts-in Gap l = by_test (wanted (kind l) l.left) (λ z. rw z (refl, refl, refl)) (λ z. rw z (refl, refl, refl))
+settled-counts-in _ l = (refl, refl, refl)
+
 settled-counts : (l : Line) → ((settled l).used ≡ l.used) × ((settled l).marked ≡ l.marked) × ((settled l).stored ≡ l.stored)
-unfolding settled malformed
-settled-counts l =
-    by_test (eqb l.phase GAP)
-    (λ q. by_test (wanted (kind l) l.left) (λ z. rw (q, z) (refl, refl, refl)) (λ z. rw (q, z) (refl, refl, refl)))
-    (λ q. rw q (refl, refl, refl))
+unfolding settled
+settled-counts l = settled-counts-in l.phase l
 
 alike_end : (r s : Reader) → Alike r s → Alike (at_end r) (at_end s)
 unfolding at_end
@@ -279,15 +291,19 @@ alike_end r s A =
 
 -- ---- what it says
 
+module _ (l : Line) (w e n w' e' n' : List ℕ) (S : Same l.used l.marked l.stored w e n w' e' n') where
+  said-in : (p : Phase) → said_in p (reader_over l w e n) ≡ said_in p (reader_over l w' e' n')
+  said-in Malformed = refl
+  said-in Gap =
+      let parts : cuts 0 (take l.marked e) w ≡ cuts 0 (take l.marked e') w' =
+      cuts-same l.used 0 (take l.marked e) w w' S.small S.words ∙ ap (λ (x : List ℕ). cuts 0 x w') S.ends
+      in
+      rw (parts, S.longs)
+  said-in _ = refl
+
 said-alike : (r s : Reader) → Alike r s → said r ≡ said s
 unfolding said
-said-alike r s A =
-    let S = A.same in
-    let parts : parts_of r ≡ cuts 0 (take r.line.marked s.ends) s.words =
-    cuts-same r.line.used 0 (take r.line.marked r.ends) r.words s.words S.small S.words
-    ∙ ap (λ (x : List ℕ). cuts 0 x s.words) S.ends
-    in
-    rw (← A.line, parts, S.longs)
+said-alike r s A = rw (on-one-line r s A) (said-in r.line r.words r.ends r.longs s.words s.ends s.longs A.same r.line.phase)
 
 zeros : Sized (replicate pool 0) (replicate parts_most 0) (replicate longs_most 0)
 zeros = record {
@@ -296,7 +312,7 @@ zeros = record {
   longs = length-replicate {A = ℕ} longs_most 0;
 }
 
-start-alike : (w e n : List ℕ) → Sized w e n → Alike (reader fresh_line w e n) start
+start-alike : (w e n : List ℕ) → Sized w e n → Alike (reader_over fresh_line w e n) start
 unfolding start Below
 start-alike w e n P = record {
   line = refl;

@@ -2,7 +2,8 @@
 use Rattle.std.specs.Prelude.{◌≡◌, ℕ, List, [], ◌∷◌, ◌++◌}
 use Prim.Native.String.{String}
 use Rattle.grammar.specs.Codes.{codes}
-use Rattle.grammar.specs.Grammar.{CHECK, MEMORY, ENTRY, RUN, row_of, word_parts, long_parts}
+use Rattle.grammar.specs.declared.Form.TheVariants.{Check, Memory, Entry, Run}
+use Rattle.grammar.specs.Grammar.{row_of, word_parts, long_parts}
 use Rattle.reader.specs.Reader.{Reader, reads}
 use Rattle.protocol.specs.Said.{Said, nothing, malformed_at, request, line_says}
 
@@ -16,15 +17,15 @@ pub record Examples : Type 0 where
   pub comment : Says "# check 0x" nothing
   pub indented : Says "  # 1" nothing
   -- a line of each request, decimal and hexadecimal
-  pub check : Says "check 2 7 0x1F 0 0 1 007 1 0x8" (request CHECK ((7 ∷ 31 ∷ []) ∷ [] ∷ [] ∷ (7 ∷ []) ∷ (8 ∷ []) ∷ []) [])
-  pub memory : Says "memory 0 0x0 1 4294967295 1 0xffffFFFF" (request MEMORY ([] ∷ [] ∷ (4294967295 ∷ []) ∷ (4294967295 ∷ []) ∷ []) [])
+  pub check : Says "check 2 7 0x1F 0 0 1 007 1 0x8" (request Check ((7 ∷ 31 ∷ []) ∷ [] ∷ [] ∷ (7 ∷ []) ∷ (8 ∷ []) ∷ []) [])
+  pub memory : Says "memory 0 0x0 1 4294967295 1 0xffffFFFF" (request Memory ([] ∷ [] ∷ (4294967295 ∷ []) ∷ (4294967295 ∷ []) ∷ []) [])
   pub entry :
       Says "entry 0 0 0 1 6 1 5 0 3 10 11 12 0xd 14 15 16 17"
-      (request ENTRY ([] ∷ [] ∷ [] ∷ (6 ∷ []) ∷ (5 ∷ []) ∷ [] ∷ (3 ∷ 10 ∷ 11 ∷ 12 ∷ 13 ∷ 14 ∷ 15 ∷ 16 ∷ 17 ∷ []) ∷ []) [])
+      (request Entry ([] ∷ [] ∷ [] ∷ (6 ∷ []) ∷ (5 ∷ []) ∷ [] ∷ (3 ∷ 10 ∷ 11 ∷ 12 ∷ 13 ∷ 14 ∷ 15 ∷ 16 ∷ 17 ∷ []) ∷ []) [])
   pub run :
       Says "run 1 5 0 1 8 0 1 2 3 4 5 6 7 8 18446744073709551615"
-      (request RUN ((5 ∷ []) ∷ [] ∷ (8 ∷ []) ∷ (0 ∷ 1 ∷ 2 ∷ 3 ∷ 4 ∷ 5 ∷ 6 ∷ 7 ∷ 8 ∷ []) ∷ []) (18446744073709551615 ∷ []))
-  pub spaced : Says " check\t0  0 0\t0 0 \r" (request CHECK ([] ∷ [] ∷ [] ∷ [] ∷ [] ∷ []) [])
+      (request Run ((5 ∷ []) ∷ [] ∷ (8 ∷ []) ∷ (0 ∷ 1 ∷ 2 ∷ 3 ∷ 4 ∷ 5 ∷ 6 ∷ 7 ∷ 8 ∷ []) ∷ []) (18446744073709551615 ∷ []))
+  pub spaced : Says " check\t0  0 0\t0 0 \r" (request Check ([] ∷ [] ∷ [] ∷ [] ∷ [] ∷ []) [])
   -- names
   pub nul : line_says (0 ∷ codes "check 0 0 0 0 0") ≡ malformed_at 0
   pub unknown : Says "Check 0 0 0 0 0" (malformed_at 0)
@@ -47,10 +48,10 @@ pub record Examples : Type 0 where
   pub table_short : Says "check 0 0 0 0 2 1" (malformed_at 17)
   pub left_over : Says "check 0 0 0 0 0 0" (malformed_at 16)
   -- the parts of the rows
-  pub check_parts : word_parts (row_of CHECK) ≡ 5
-  pub memory_parts : word_parts (row_of MEMORY) ≡ 4
-  pub entry_parts : word_parts (row_of ENTRY) ≡ 7
-  pub run_parts : word_parts (row_of RUN) ≡ 4
-  pub run_longs : long_parts (row_of RUN) ≡ 1
+  pub check_parts : word_parts (row_of Check) ≡ 5
+  pub memory_parts : word_parts (row_of Memory) ≡ 4
+  pub entry_parts : word_parts (row_of Entry) ≡ 7
+  pub run_parts : word_parts (row_of Run) ≡ 4
+  pub run_longs : long_parts (row_of Run) ≡ 1
   -- however the bytes are cut
   pub cut : (r : Reader) (xs ys : List ℕ) → reads (reads r xs) ys ≡ reads r (xs ++ ys)

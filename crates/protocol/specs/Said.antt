@@ -1,15 +1,16 @@
 -- What a line says.
-use Rattle.std.specs.Prelude.{◌≡◌, ℕ, ◌-◌, ◌≤◌, List, [], ◌∷◌, length, take, drop, replicate, ◌==◌}
-use Rattle.model.specs.Question.{pick}
+use Rattle.std.specs.Prelude.{◌≡◌, ℕ, ◌-◌, ◌≤◌, List, [], ◌∷◌, length, take, drop, replicate}
+use Rattle.grammar.specs.declared.Form.{Form}
 use Rattle.grammar.specs.Grammar.{pool, parts_most, longs_most, row_of, word_parts, long_parts}
-use Rattle.grammar.specs.Phase.{GAP, MALFORMED}
-use Rattle.reader.specs.Reader.{Reader, reader, fresh_line, reads, at_end}
+use Rattle.grammar.specs.declared.Phase.{Phase}
+use Rattle.grammar.specs.declared.Phase.TheVariants.{Gap, Malformed}
+use Rattle.reader.specs.Reader.{Reader, reader_over, fresh_line, reads, at_end}
 
 -- nothing, for an empty line or a comment; malformed at a byte; a request: its row, its parts of words, its long numbers
 pub data Said : Type 0 where
   nothing : Said
   malformed_at : ℕ → Said
-  request : ℕ → List (List ℕ) → List ℕ → Said
+  request : Form → List (List ℕ) → List ℕ → Said
 
 -- what lies from a place to another
 abbrev pub slice : ℕ → ℕ → List ℕ → List ℕ
@@ -28,15 +29,17 @@ abbrev pub parts_of : Reader → List (List ℕ)
 parts_of r = parts_in r.words r.ends r.line.marked
 
 -- of a line at its end
+abbrev pub said_in : Phase → Reader → Said
+said_in Malformed r = malformed_at r.line.stop
+said_in Gap r = request r.line.form (parts_of r) (take r.line.stored r.longs)
+said_in _ r = nothing
+
 unfoldable pub said : Reader → Said
-said r =
-    pick (r.line.phase == MALFORMED) (malformed_at r.line.stop)
-    (pick (r.line.phase == GAP) (request r.line.form (parts_of r) (take r.line.stored r.longs))
-    nothing)
+said r = said_in r.line.phase r
 
 -- before a line
 unfoldable pub start : Reader
-start = reader fresh_line (replicate pool 0) (replicate parts_most 0) (replicate longs_most 0)
+start = reader_over fresh_line (replicate pool 0) (replicate parts_most 0) (replicate longs_most 0)
 
 -- what the bytes of a line say
 unfoldable pub line_says : List ℕ → Said
@@ -59,11 +62,11 @@ pub record Whole (r : Reader) : Type 0 where
 abbrev pub RequestsWhole : Type 0
 RequestsWhole =
     (bytes w e n : List ℕ) → length e ≡ parts_most
-    → (at_end (reads (reader fresh_line w e n) bytes)).line.phase ≡ GAP
-    → Whole (at_end (reads (reader fresh_line w e n) bytes))
+    → (at_end (reads (reader_over fresh_line w e n) bytes)).line.phase ≡ Gap
+    → Whole (at_end (reads (reader_over fresh_line w e n) bytes))
 
 -- a line says the same whatever an earlier one has left in the pools
 abbrev pub PoolsForgotten : Type 0
 PoolsForgotten =
     (bytes w e n : List ℕ) → length w ≡ pool → length e ≡ parts_most → length n ≡ longs_most
-    → said (at_end (reads (reader fresh_line w e n) bytes)) ≡ line_says bytes
+    → said (at_end (reads (reader_over fresh_line w e n) bytes)) ≡ line_says bytes

@@ -1,9 +1,15 @@
 -- How a line is read: one byte after the other, from a state that is data. The state after bytes is a fold.
-use Rattle.std.specs.Prelude.{◌≡◌, ℕ, ◌+◌, ◌-◌, ◌*◌, ◌%◌, ◌<◌, ◌≤◌, List, [], ◌∷◌, length, ◌==◌, nat_lt, slice_set}
+use Rattle.std.specs.Prelude.{◌≡◌, true, ℕ, ◌+◌, ◌-◌, ◌*◌, ◌%◌, ◌<◌, ◌≤◌, List, [], ◌∷◌, Option, None, Some, ◌==◌, nat_lt, slice_set}
 use Rattle.reader.specs.declared.Line.{Line}
+use Rattle.reader.specs.declared.Pools.{Pools}
 use Rattle.model.specs.Question.{pick}
-use Rattle.grammar.specs.Grammar.{pool, row_length, parts_most, longs_most, long_end, table, given, part_at, bound, wanted, begun, named, names}
-use Rattle.grammar.specs.Phase.{EMPTY, NAME, GAP, ZERO, PREFIX, COMMENT, MALFORMED, blank, hash, space}
+use Rattle.grammar.specs.declared.Form.{Form}
+use Rattle.grammar.specs.declared.Form.TheVariants.{Check}
+use Rattle.grammar.specs.declared.Part.{Part}
+use Rattle.grammar.specs.Grammar.{pool, row_length, parts_most, longs_most, long_end, is_table, given, part_at, bound, wanted, begun, named}
+use Rattle.grammar.specs.declared.Phase.{Phase}
+use Rattle.grammar.specs.declared.Phase.TheVariants.{Empty, Name, Gap, Zero, Prefix, Comment, Malformed}
+use Rattle.grammar.specs.Phase.{in_number, blank, hash, space}
 use Rattle.numeral.specs.Digit.{numeral, ex, base, digit_to}
 
 -- ---- the state
@@ -15,22 +21,27 @@ pub record Reader : Type 0 where
   pub ends : List ℕ
   pub longs : List ℕ
 
-abbrev pub reader : Line → List ℕ → List ℕ → List ℕ → Reader
-reader l w e n = record { line = l; words = w; ends = e; longs = n }
+-- a line over lists
+abbrev pub reader_over : Line → List ℕ → List ℕ → List ℕ → Reader
+reader_over l w e n = record { line = l; words = w; ends = e; longs = n }
+
+-- a line over the pools of the code
+abbrev pub reader : Line → Pools → Reader
+reader l p = reader_over l p.words p.ends p.longs
 
 abbrev pub on_line : Reader → Line → Reader
-on_line r l = reader l r.words r.ends r.longs
+on_line r l = reader_over l r.words r.ends r.longs
 
 -- nothing read yet
 abbrev pub fresh_line : Line
-fresh_line = record { phase = EMPTY; at = 0; stop = 0; value = 0; form = 0; part = 0; left = 0; used = 0; marked = 0; stored = 0 }
+fresh_line = record { phase = Empty; at = 0; stop = 0; value = 0; form = Check; part = 0; left = 0; used = 0; marked = 0; stored = 0 }
 
 -- positions are counted modulo 2^64
 abbrev pub past : ℕ → ℕ → ℕ
 past at k = (at + k) % long_end
 
 -- the line with another phase, position, place of a fault and value
-abbrev pub line_of : Line → ℕ → ℕ → ℕ → ℕ → Line
+abbrev pub line_of : Line → Phase → ℕ → ℕ → ℕ → Line
 line_of l phase at stop value = record {
   phase = phase;
   at = at;
@@ -47,7 +58,7 @@ line_of l phase at stop value = record {
 -- the line between numbers, in a part, with so much of everything
 abbrev pub placed : Line → ℕ → ℕ → ℕ → ℕ → ℕ → Line
 placed l part left used marked stored = record {
-  phase = GAP;
+  phase = Gap;
   at = l.at;
   stop = l.stop;
   value = 0;
@@ -64,11 +75,11 @@ abbrev pub shifted : ℕ → Reader → Reader
 shifted at r = on_line r (line_of r.line r.line.phase at r.line.stop r.line.value)
 
 unfoldable pub malformed : Line → Line
-malformed l = line_of l MALFORMED l.at l.at l.value
+malformed l = line_of l Malformed l.at l.at l.value
 
 -- ---- numbers
 
-abbrev pub kind : Line → ℕ
+abbrev pub kind : Line → Part
 kind l = part_at l.form l.part
 
 -- a number here must be below this
@@ -87,8 +98,12 @@ digit_read l b =
     (malformed l)
 
 -- a byte of a number: a digit, or the x after one 0
+abbrev pub number_in : Phase → Line → ℕ → Line
+number_in Zero l b = pick (b == ex) (line_of l Prefix l.at l.stop 0) (digit_read l b)
+number_in _ l b = digit_read l b
+
 unfoldable pub number_read : Line → ℕ → Line
-number_read l b = pick (l.phase == ZERO) (pick (b == ex) (line_of l PREFIX l.at l.stop 0) (digit_read l b)) (digit_read l b)
+number_read l b = number_in l.phase l b
 
 -- ---- what is taken
 
@@ -101,7 +116,7 @@ unfoldable pub finished : Reader → ℕ → Reader
 finished r used =
     let l = r.line in
     pick (nat_lt l.marked parts_most)
-    (reader (after l used (l.marked + 1) l.stored) r.words (slice_set r.ends l.marked used) r.longs)
+    (reader_over (after l used (l.marked + 1) l.stored) r.words (slice_set r.ends l.marked used) r.longs)
     (on_line r (malformed l))
 
 -- a word
@@ -111,8 +126,8 @@ word_taken r =
     let w = slice_set r.words l.used l.value in
     pick (nat_lt l.used pool)
     (pick (nat_lt l.left 2)
-    (finished (reader l w r.ends r.longs) (l.used + 1))
-    (reader (placed l l.part (l.left - 1) (l.used + 1) l.marked l.stored) w r.ends r.longs))
+    (finished (reader_over l w r.ends r.longs) (l.used + 1))
+    (reader_over (placed l l.part (l.left - 1) (l.used + 1) l.marked l.stored) w r.ends r.longs))
     (on_line r (malformed l))
 
 -- a table's count
@@ -126,12 +141,12 @@ unfoldable pub long_taken : Reader → Reader
 long_taken r =
     let l = r.line in
     pick (nat_lt l.stored longs_most)
-    (reader (after l l.used l.marked (l.stored + 1)) r.words r.ends (slice_set r.longs l.stored l.value))
+    (reader_over (after l l.used l.marked (l.stored + 1)) r.words r.ends (slice_set r.longs l.stored l.value))
     (on_line r (malformed l))
 
 -- the number being read is at its end
 unfoldable pub taken : Reader → Reader
-taken r = pick (nat_lt 0 r.line.left) (word_taken r) (pick (kind r.line == table) (count_taken r) (long_taken r))
+taken r = pick (nat_lt 0 r.line.left) (word_taken r) (pick (is_table (kind r.line)) (count_taken r) (long_taken r))
 
 -- ---- a byte
 
@@ -139,9 +154,9 @@ taken r = pick (nat_lt 0 r.line.left) (word_taken r) (pick (kind r.line == table
 abbrev pub letters_end : ℕ
 letters_end = 281474976710656
 
-abbrev pub first_part : Line → ℕ → Line
+abbrev pub first_part : Line → Form → Line
 first_part l form = record {
-  phase = GAP;
+  phase = Gap;
   at = l.at;
   stop = l.stop;
   value = 0;
@@ -153,30 +168,41 @@ first_part l form = record {
   stored = 0;
 }
 
+-- at the beginning of the first part of the request with the name, if there is one
+abbrev pub name_ended : Line → Option Form → Line
+name_ended l None = malformed l
+name_ended l (Some form) = first_part l form
+
 unfoldable pub name_read : Line → ℕ → Line
 name_read l b =
     pick (blank b)
-    (pick (nat_lt (named names l.value) (length names)) (first_part l (named names l.value)) (malformed l))
+    (name_ended l (named l.value))
     (pick (nat_lt l.value letters_end)
-    (pick (begun names (l.value * 256 + b)) (line_of l NAME l.at l.stop (l.value * 256 + b)) (malformed l))
+    (pick (begun (l.value * 256 + b)) (line_of l Name l.at l.stop (l.value * 256 + b)) (malformed l))
     (malformed l))
 
 unfoldable pub first_read : Line → ℕ → Line
-first_read l b = pick (blank b) l (pick (b == hash) (line_of l COMMENT l.at l.stop 0) (name_read l b))
+first_read l b = pick (blank b) l (pick (b == hash) (line_of l Comment l.at l.stop 0) (name_read l b))
 
 -- a blank between numbers, or after one; 0x alone is none
+abbrev pub blank_in : Phase → Reader → Reader
+blank_in Gap r = r
+blank_in Prefix r = on_line r (malformed r.line)
+blank_in _ r = taken r
+
 unfoldable pub blank_read : Reader → Reader
-blank_read r =
-    pick (r.line.phase == GAP) r
-    (pick (r.line.phase == PREFIX) (on_line r (malformed r.line)) (taken r))
+blank_read r = blank_in r.line.phase r
 
 -- a byte that is not the line's end, but for the position
+abbrev pub act_in : Phase → Reader → ℕ → Reader
+act_in Empty r b = on_line r (first_read r.line b)
+act_in Name r b = on_line r (name_read r.line b)
+act_in Comment r b = r
+act_in Malformed r b = r
+act_in _ r b = pick (blank b) (blank_read r) (on_line r (number_read r.line b))
+
 unfoldable pub act : Reader → ℕ → Reader
-act r b =
-    pick (r.line.phase == EMPTY) (on_line r (first_read r.line b))
-    (pick (r.line.phase == NAME) (on_line r (name_read r.line b))
-    (pick (nat_lt r.line.phase COMMENT) (pick (blank b) (blank_read r) (on_line r (number_read r.line b)))
-    r))
+act r b = act_in r.line.phase r b
 
 unfoldable pub step : Reader → ℕ → Reader
 step r b = shifted (past r.line.at 1) (act r b)
@@ -188,8 +214,12 @@ reads r [] = r
 reads r (b ∷ bs) = reads (step r b) bs
 
 -- a request that still wants a number is malformed
+abbrev pub settled_in : Phase → Line → Line
+settled_in Gap l = pick (wanted (kind l) l.left) (malformed l) l
+settled_in _ l = l
+
 unfoldable pub settled : Line → Line
-settled l = pick (l.phase == GAP) (pick (wanted (kind l) l.left) (malformed l) l) l
+settled l = settled_in l.phase l
 
 -- the line's end ends a number or a name as a blank does
 unfoldable pub at_end : Reader → Reader
@@ -201,6 +231,6 @@ pub record Fine (l : Line) : Type 0 where
   pub used : l.used ≤ pool
   pub part : l.part ≤ row_length
   pub inside : 0 < l.left → l.part < row_length
-  pub number : GAP < l.phase → l.phase < COMMENT → (l.part < row_length) × (l.value < bound_of l)
-  pub gap : l.phase ≡ GAP → l.value ≡ 0
+  pub number : in_number l.phase ≡ true → (l.part < row_length) × (l.value < bound_of l)
+  pub gap : l.phase ≡ Gap → l.value ≡ 0
   pub counted : l.at < long_end

@@ -1,30 +1,29 @@
 // A line, read byte by byte into pools of words, of the places where its parts end and of long numbers.
 #![tactic(auto)]
 
-ghost use Rattle.std.specs.Prelude.{◌≡◌, ℕ, ◌<◌, ◌≤◌, List};
-ghost use Rattle.grammar.specs.Grammar.{pool, row_length, word_end};
-ghost use Rattle.grammar.specs.Phase.{GAP, COMMENT};
-ghost use Rattle.reader.specs.Reader.{reader, placed, malformed, digit_read, number_read};
+ghost use Rattle.std.specs.Prelude.{◌≡◌, ◌<◌, ◌≤◌, true};
+ghost use Rattle.grammar.specs.Grammar.{pool, row_length, word_end, below};
+ghost use Rattle.grammar.specs.Phase.{in_parts};
+ghost use Rattle.reader.specs.Reader.{reader, placed, kind, bound_of, malformed, digit_read, number_read};
 ghost use Rattle.reader.specs.Reader.{after, first_part, finished, word_taken, count_taken, long_taken, taken, name_read, first_read, blank_read};
-ghost use Rattle.reader.specs.Reader.{act, step, Fine};
+ghost use Rattle.reader.specs.Reader.{act, step, settled, Fine};
 
-use grammar::{
-    COMMENT, EMPTY, GAP, LONGS_MOST, MALFORMED, NAME, PARTS_MOST, POOL, PREFIX, ROWS, TABLE, ZERO,
-};
+use grammar::{Form, LONGS_MOST, PARTS_MOST, POOL, Part, Phase};
 
 // Letters from this number on could not be followed by one more.
 const LETTERS_END: u64 = 0x1000000000000;
 
 #[derive(Clone, Copy)]
 pub struct Line {
-    pub phase: u32,
+    pub phase: Phase,
+    // the request, whose row is read; it stands beside the phase, since the gap that it leaves before a wider field is slow to copy
+    pub form: Form,
     // bytes read, and the byte at which a malformed line stopped
     pub at: u64,
     pub stop: u64,
     // the number being read, or the letters of the name
     pub value: u64,
-    // the request's row, the part of it that is being read, and the words of that part still to come: 0 before a count
-    pub form: usize,
+    // the part of the request's row that is being read, and the words of that part still to come: 0 before a count
     pub part: usize,
     pub left: usize,
     // words in the pool, ends of parts marked, long numbers stored
@@ -33,58 +32,93 @@ pub struct Line {
     pub stored: usize,
 }
 
-// The line is malformed at the byte being read.
-pub fn no(l: Line) -> Line
-    ensures { result ≡ malformed l }
-{
-    let mut m = l;
-    m.phase = MALFORMED;
-    m.stop = l.at;
-    m
+// What lines are read into: the words of their tables, the places where the parts end, and long numbers. 540 KB, so it is lent and never moved.
+#[derive(Drop)]
+pub struct Pools {
+    pub words: [u32; POOL],
+    pub ends: [usize; PARTS_MOST],
+    pub longs: [u64; LONGS_MOST],
+}
+
+impl Line {
+    // Malformed at the byte being read.
+    #[tactic(auto, unfolding(crate::specs::Reader::malformed))]
+    pub fn malformed(self) -> Line
+        ensures { result ≡ malformed self }
+    {
+        Line {
+            phase: Phase::Malformed,
+            stop: self.at,
+            ..self
+        }
+    }
+
+    // The part that is being read.
+    fn kind(self) -> Part
+        ensures { result ≡ kind self }
+    {
+        self.form.part_at(self.part)
+    }
+
+    // The largest number that may stand where the line stands.
+    pub fn largest(self) -> Option<u64>
+        requires { self.used ≤ pool }
+        ensures { result ≡ below (bound_of self) }
+    {
+        grammar::largest(self.kind(), self.left, self.used)
+    }
+
+    // A request that still wants a number is malformed.
+    #[tactic(auto, unfolding(crate::specs::Reader::settled))]
+    pub fn settled(self) -> Line
+        ensures { result ≡ settled self }
+    {
+        if self.phase == Phase::Gap && grammar::wants(self.kind(), self.left) {
+            return self.malformed();
+        }
+        self
+    }
 }
 
 // ---- numbers
 
 // One more digit of the number being read.
+#[tactic(auto, unfolding(crate::specs::Reader::digit_read))]
 fn digit_read(l: Line, byte: u8) -> Line
     requires { l.used ≤ pool }
     ensures { result ≡ digit_read l byte }
 {
     let by = numeral::base(l.phase);
-    let d = numeral::numeral(byte);
-    if by <= d {
-        return no(l);
+    let Some(d) = numeral::digit(byte, by) else {
+        return l.malformed();
+    };
+    let Some(most) = l.largest() else {
+        return l.malformed();
+    };
+    let Some(value) = numeral::grown(most, l.value, by, d) else {
+        return l.malformed();
+    };
+    Line {
+        phase: numeral::digit_to(l.phase, d),
+        value,
+        ..l
     }
-    let kind = grammar::part_at(l.form, l.part);
-    if !grammar::wants(kind, l.left) {
-        return no(l);
-    }
-    let most = grammar::largest(kind, l.left, l.used);
-    if numeral::over(most, l.value, by, d) {
-        return no(l);
-    }
-    let phase = numeral::digit_to(l.phase, d);
-    let mut m = l;
-    m.phase = phase;
-    m.value = l.value * by + d;
-    m
 }
 
 // A byte of a number: a digit, or the x after one 0.
+#[tactic(auto, unfolding(crate::specs::Reader::number_read))]
 fn number_read(l: Line, byte: u8) -> Line
     requires { l.used ≤ pool }
     ensures { result ≡ number_read l byte }
 {
-    if l.phase != ZERO {
-        return digit_read(l, byte);
+    if l.phase == Phase::Zero && byte == b'x' {
+        return Line {
+            phase: Phase::Prefix,
+            value: 0,
+            ..l
+        };
     }
-    if byte != b'x' {
-        return digit_read(l, byte);
-    }
-    let mut m = l;
-    m.phase = PREFIX;
-    m.value = 0;
-    m
+    digit_read(l, byte)
 }
 
 // ---- what is taken
@@ -93,231 +127,199 @@ fn number_read(l: Line, byte: u8) -> Line
 fn placed(l: Line, part: usize, left: usize, used: usize, marked: usize, stored: usize) -> Line
     ensures { result ≡ placed l part left used marked stored }
 {
-    let mut m = l;
-    m.phase = GAP;
-    m.value = 0;
-    m.part = part;
-    m.left = left;
-    m.used = used;
-    m.marked = marked;
-    m.stored = stored;
-    m
+    Line {
+        phase: Phase::Gap,
+        value: 0,
+        part,
+        left,
+        used,
+        marked,
+        stored,
+        ..l
+    }
 }
 
 // The line at the beginning of the part after the one that is finished.
+#[tactic(auto, unfolding(crate::specs::Reader::after))]
 fn after(l: Line, used: usize, marked: usize, stored: usize) -> Line
     requires { l.part < row_length }
     ensures { result ≡ after l used marked stored }
 {
     let part = l.part + 1;
-    let kind = grammar::part_at(l.form, part);
+    let kind = l.form.part_at(part);
     let left = grammar::given(kind);
     placed(l, part, left, used, marked, stored)
 }
 
 // Words of a part end at a place of the pool.
-fn finish(l: Line, used: usize, ends: &mut [usize; PARTS_MOST]) -> Line
+#[tactic(auto, unfolding(crate::specs::Reader::finished))]
+fn finish(l: Line, used: usize, pools: &mut Pools) -> Line
     requires { l.part < row_length }
-    ensures { (w n : List ℕ) → reader result w ends.new n ≡ finished (reader l w ends.old n) used }
+    ensures { reader result pools.new ≡ finished (reader l pools.old) used }
 {
     let t = l.marked;
     if PARTS_MOST <= t {
-        return no(l);
+        return l.malformed();
     }
-    ends[t] = used;
+    pools.ends[t] = used;
     after(l, used, t + 1, l.stored)
 }
 
 // A word of a part is at its end.
-fn take_word(l: Line, words: &mut [u32; POOL], ends: &mut [usize; PARTS_MOST]) -> Line
+#[tactic(auto, unfolding(crate::specs::Reader::word_taken))]
+fn take_word(l: Line, pools: &mut Pools) -> Line
     requires { (l.part < row_length) × (l.value < word_end) × (0 < l.left) }
-    ensures { (n : List ℕ) → reader result words.new ends.new n
-        ≡ word_taken (reader l words.old ends.old n) }
+    ensures { reader result pools.new ≡ word_taken (reader l pools.old) }
 {
     let at = l.used;
     if POOL <= at {
-        return no(l);
+        return l.malformed();
     }
-    words[at] = l.value as u32;
+    pools.words[at] = l.value as u32;
     if l.left < 2 {
-        return finish(l, at + 1, ends);
+        return finish(l, at + 1, pools);
     }
     placed(l, l.part, l.left - 1, at + 1, l.marked, l.stored)
 }
 
 // A table's count is at its end; a table of no words is finished at once.
-fn take_count(l: Line, ends: &mut [usize; PARTS_MOST]) -> Line
+#[tactic(auto, unfolding(crate::specs::Reader::count_taken))]
+fn take_count(l: Line, pools: &mut Pools) -> Line
     requires { l.part < row_length }
-    ensures { (w n : List ℕ) → reader result w ends.new n ≡ count_taken (reader l w ends.old n) }
+    ensures { reader result pools.new ≡ count_taken (reader l pools.old) }
 {
     let v = l.value;
     if v == 0 {
-        return finish(l, l.used, ends);
+        return finish(l, l.used, pools);
     }
     placed(l, l.part, v as usize, l.used, l.marked, l.stored)
 }
 
 // A long number is at its end.
-fn take_long(l: Line, longs: &mut [u64; LONGS_MOST]) -> Line
+#[tactic(auto, unfolding(crate::specs::Reader::long_taken))]
+fn take_long(l: Line, pools: &mut Pools) -> Line
     requires { l.part < row_length }
-    ensures { (w e : List ℕ) → reader result w e longs.new ≡ long_taken (reader l w e longs.old) }
+    ensures { reader result pools.new ≡ long_taken (reader l pools.old) }
 {
     let k = l.stored;
     if LONGS_MOST <= k {
-        return no(l);
+        return l.malformed();
     }
-    longs[k] = l.value;
+    pools.longs[k] = l.value;
     after(l, l.used, l.marked, k + 1)
 }
 
 // The number being read is at its end.
-pub fn take(
-    l: Line,
-    words: &mut [u32; POOL],
-    ends: &mut [usize; PARTS_MOST],
-    longs: &mut [u64; LONGS_MOST],
-) -> Line
+#[tactic(auto, unfolding(crate::specs::Reader::taken))]
+pub fn take(l: Line, pools: &mut Pools) -> Line
     requires { (l.part < row_length) × (0 < l.left → l.value < word_end) }
-    ensures { reader result words.new ends.new longs.new
-        ≡ taken (reader l words.old ends.old longs.old) }
+    ensures { reader result pools.new ≡ taken (reader l pools.old) }
 {
     if 0 < l.left {
-        return take_word(l, words, ends);
+        return take_word(l, pools);
     }
-    let kind = grammar::part_at(l.form, l.part);
-    if kind == TABLE {
-        return take_count(l, ends);
+    match l.kind() {
+        Part::Table => take_count(l, pools),
+        _ => take_long(l, pools),
     }
-    take_long(l, longs)
 }
 
 // ---- the name
 
 // The line at the beginning of a request's first part.
-fn first_part(l: Line, form: usize) -> Line
+fn first_part(l: Line, form: Form) -> Line
     ensures { result ≡ first_part l form }
 {
-    let kind = grammar::part_at(form, 0);
+    let kind = form.part_at(0);
     let left = grammar::given(kind);
     Line {
-        phase: GAP,
-        at: l.at,
-        stop: l.stop,
-        value: 0,
         form,
-        part: 0,
-        left,
-        used: 0,
-        marked: 0,
-        stored: 0,
+        ..placed(l, 0, left, 0, 0, 0)
     }
 }
 
 // A letter of the name, or the blank that ends it.
+#[tactic(auto, unfolding(crate::specs::Reader::name_read))]
 fn name_read(l: Line, byte: u8) -> Line
     ensures { result ≡ name_read l byte }
 {
-    let value = l.value;
     if grammar::is_blank(byte) {
-        let form = grammar::form_named(value);
-        if ROWS <= form {
-            return no(l);
-        }
-        return first_part(l, form);
+        return match Form::named(l.value) {
+            Some(form) => first_part(l, form),
+            None => l.malformed(),
+        };
     }
-    if LETTERS_END <= value {
-        return no(l);
+    if LETTERS_END <= l.value {
+        return l.malformed();
     }
-    let letters = value * 256 + byte as u64;
+    let letters = l.value * 256 + byte as u64;
     if !grammar::name_begun(letters) {
-        return no(l);
+        return l.malformed();
     }
-    let mut m = l;
-    m.phase = NAME;
-    m.value = letters;
-    m
+    Line {
+        phase: Phase::Name,
+        value: letters,
+        ..l
+    }
 }
 
 // A byte before anything but blanks.
+#[tactic(auto, unfolding(crate::specs::Reader::first_read))]
 fn first_read(l: Line, byte: u8) -> Line
     ensures { result ≡ first_read l byte }
 {
     if grammar::is_blank(byte) {
-        return l;
+        l
+    } else if byte == b'#' {
+        Line {
+            phase: Phase::Comment,
+            value: 0,
+            ..l
+        }
+    } else {
+        name_read(l, byte)
     }
-    if byte == b'#' {
-        let mut m = l;
-        m.phase = COMMENT;
-        m.value = 0;
-        return m;
-    }
-    name_read(l, byte)
 }
 
 // ---- a byte
 
 // A blank between numbers, or after one; 0x alone is none.
-fn blank_read(
-    l: Line,
-    words: &mut [u32; POOL],
-    ends: &mut [usize; PARTS_MOST],
-    longs: &mut [u64; LONGS_MOST],
-) -> Line
-    requires { Fine l × (GAP ≤ l.phase) × (l.phase < COMMENT) }
-    ensures { reader result words.new ends.new longs.new
-        ≡ blank_read (reader l words.old ends.old longs.old) }
+#[tactic(auto, unfolding(crate::specs::Reader::blank_read))]
+fn blank_read(l: Line, pools: &mut Pools) -> Line
+    requires { Fine l × (in_parts l.phase ≡ true) }
+    ensures { reader result pools.new ≡ blank_read (reader l pools.old) }
 {
-    let phase = l.phase;
-    if phase == GAP {
-        return l;
+    match l.phase {
+        Phase::Gap => l,
+        Phase::Prefix => l.malformed(),
+        _ => take(l, pools),
     }
-    if phase == PREFIX {
-        return no(l);
-    }
-    take(l, words, ends, longs)
 }
 
 // A byte that is not the line's end, but for the position.
-pub fn act(
-    l: Line,
-    byte: u8,
-    words: &mut [u32; POOL],
-    ends: &mut [usize; PARTS_MOST],
-    longs: &mut [u64; LONGS_MOST],
-) -> Line
+#[tactic(auto, unfolding(crate::specs::Reader::act))]
+pub fn act(l: Line, byte: u8, pools: &mut Pools) -> Line
     requires { Fine l }
-    ensures { reader result words.new ends.new longs.new
-        ≡ act (reader l words.old ends.old longs.old) byte }
+    ensures { reader result pools.new ≡ act (reader l pools.old) byte }
 {
-    let phase = l.phase;
-    if phase == EMPTY {
-        return first_read(l, byte);
+    match l.phase {
+        Phase::Empty => first_read(l, byte),
+        Phase::Name => name_read(l, byte),
+        Phase::Comment | Phase::Malformed => l,
+        _ if grammar::is_blank(byte) => blank_read(l, pools),
+        _ => number_read(l, byte),
     }
-    if phase == NAME {
-        return name_read(l, byte);
-    }
-    if COMMENT <= phase {
-        return l;
-    }
-    if !grammar::is_blank(byte) {
-        return number_read(l, byte);
-    }
-    blank_read(l, words, ends, longs)
 }
 
 // The line after one more byte that is not its end.
-pub fn next(
-    l: Line,
-    byte: u8,
-    words: &mut [u32; POOL],
-    ends: &mut [usize; PARTS_MOST],
-    longs: &mut [u64; LONGS_MOST],
-) -> Line
+#[tactic(auto, unfolding(crate::specs::Reader::step))]
+pub fn next(l: Line, byte: u8, pools: &mut Pools) -> Line
     requires { Fine l }
-    ensures { reader result words.new ends.new longs.new
-        ≡ step (reader l words.old ends.old longs.old) byte }
+    ensures { reader result pools.new ≡ step (reader l pools.old) byte }
 {
-    let mut m = act(l, byte, words, ends, longs);
-    m.at = std::num::wrapping_add_u64(l.at, 1);
-    m
+    let m = act(l, byte, pools);
+    Line {
+        at: l.at.wrapping_add(1),
+        ..m
+    }
 }

@@ -5,16 +5,14 @@ use protocol::Line;
 
 mod lines;
 
-pub use lines::{HELD, fill, finish, held, start, written};
+pub use lines::{HELD, fill, finish, start};
 
-// How far an input was read: the line that is being read, its number, whether some answer was other than 0 and 40, and the bytes of
-// answers that the buffer holds.
+// How far an input was read: the line that is being read, its number, and whether some answer was other than 0 and 40.
 #[derive(Clone, Copy)]
 pub struct Place {
     pub line: Line,
     pub count: u64,
     pub refused: bool,
-    pub held: usize,
 }
 
 // Bytes that were answered, up to a place among them.

@@ -1,25 +1,29 @@
 -- One instruction: a law for each way out of `effect_of`, `reached` and `leave`.
 use mathlib.Core.Path.{◌≡◌, refl, ◌∙◌}
-use mathlib.Core.Bool.{true, false}
+use mathlib.Core.Bool.{Bool, true, false}
 use mathlib.Core.List.{List}
 use Prim.Native.Nat.{ℕ, suc, ◌/◌, ◌%◌, ◌<◌, ◌≤◌}
 use native.Mathlib.Omega.{arith}
 use lib.Dec.{ltb, eqb}
 use lib.ListN.{length, get_or, set}
 use borrow.Author.Tests.{lt-ltb, le-ltb, eq-eqb, ne_eqb}
-use Rattle.model.specs.Question.{pick, question_of, provided}
-use Rattle.model.specs.Word.{opcode_of, a_of, b_of, c_of, sum, difference, product, signed, moved}
+use Rattle.std.specs.Prelude.{Ok, Err}
+use Rattle.model.specs.Question.{pick, provided, refused}
+use Rattle.model.specs.declared.questions.Question.{Question}
+use Rattle.model.specs.declared.questions.Question.TheVariants.{Address as q18}
+use Rattle.model.specs.Word.{opcode_of, a_of, b_of, c_of, sum}
 use Rattle.model.specs.Table.{Routine}
 use Rattle.model.specs.Machine.{Plain, constant, copy, add, subtract, multiply, divide, move, decode, put, reg, effect, addressed, registers_after}
-use Rattle.model.specs.Machine.{memory_after, next, State, Step, leave, perform, carry_out, faults}
+use Rattle.model.specs.Machine.{memory_after, enter, next, State, leave, perform, carry_out, faults}
 use Rattle.model.proofs.Logic.{by_equality, by_less}
 use Rattle.model.proofs.Lists.{set_same}
 use Rattle.instruction.specs.Form.{form_no, plain_of, end_of, Inside, Ending}
 use Rattle.instruction.proofs.Parts.{arithmetic-c, divide-c}
 use Rattle.instruction.proofs.Laws.{end-halt, end-jump, end-equal, end-less, form-refuses, form-anywhere, form-inside, form-ending}
-use Rattle.step.specs.declared.Effect.{Effect}
-use Rattle.step.specs.declared.Exit.TheVariants.{To, Following, Halted, No}
-use Rattle.step.specs.Answer.{at, step_of, past, value_of, on_register, on_memory, putting, does, exit_of}
+use Rattle.step.specs.declared.Effect.TheVariants.{Put, Read, Write}
+use Rattle.step.specs.declared.Exit.{Exit}
+use Rattle.step.specs.declared.Exit.TheVariants.{To, Following, Halted}
+use Rattle.step.specs.Answer.{at, step_of, value_of, does, exit_of}
 
 -- ---- the effect of an instruction inside a block
 
@@ -34,43 +38,36 @@ third-register w f l h = omega (arith, arithmetic-c w f.well l h)
 pub divisor : (w : ℕ) → Inside 1 w → opcode_of w ≡ 6 → 0 < c_of w
 divisor w f e = divide-c w f.well e
 
--- one of five words, chosen in five steps
-pub chosen : (o x y c s d sums p pairs t more low v : ℕ) → s ≡ sum x y → d ≡ difference x y → sums ≡ pick (eqb o 3) s d
-    → p ≡ product x y → pairs ≡ pick (eqb o 5) p sums → t ≡ moved x (signed c) → more ≡ pick (eqb o 7) t pairs
-    → low ≡ pick (eqb o 1) c x → v ≡ pick (ltb o 3) low more → v ≡ value_of o x y c
-unfolding value_of
-chosen o x y c s d sums p pairs t more low v e1 e2 e3 e4 e5 e6 e7 e8 e9 = rw (e9, e8, e7, e6, e5, e4, e3, e2, e1)
-
 module _ (P : Routine) (b j f n : ℕ) (r m : List ℕ) (d : suc j ≡ P.long b → ⊥) (w : ℕ) where
   abbrev here : State
   here = at b j r m f n
 
-  -- Q7 or Q8, and the register keeps its word
-  pub refuses : (k a : ℕ) → k ≡ form_no (decode w) false 0 0 → (k ≡ 0 → ⊥) → does (on_register k a (reg r a)) here ≡ perform P (decode w) here
-  unfolding does step_of perform
-  refuses k a e z =
-      rw (set_same r a, ne_eqb k 0 z, ne_eqb (suc j) (P.long b) d)
-      (form-refuses (λ q. faults q here) P.count b _ _ false (decode w) k (e ∙ form-anywhere (decode w) 0 0 b P.count) z)
+  -- Q7 or Q8
+  pub refuses : (q : Question) → refused q ≡ form_no (decode w) false 0 0 → does (Err q) here ≡ perform P (decode w) here
+  unfolding does perform
+  refuses q e =
+      rw (ne_eqb (suc j) (P.long b) d)
+      (form-refuses (λ q. faults q here) P.count b _ _ false (decode w) q (e ∙ form-anywhere (decode w) 0 0 b P.count))
 
   module _ (k : Inside 1 w) (a : ℕ) (ea : a ≡ a_of w) where
     carries : carry_out P (plain_of w) here ≡ perform P (decode w) here
     unfolding perform
     carries = rw (ne_eqb (suc j) (P.long b) d) (form-inside (λ q. faults q here) P.count b (λ y. carry_out P y here) _ w k)
 
-    puts : (x : Plain) (v : ℕ) → plain_of w ≡ x → put (a_of w) v ≡ effect x r → does (on_register 0 a v) here ≡ perform P (decode w) here
-    unfolding does step_of carry_out provided addressed registers_after memory_after
+    puts : (x : Plain) (v : ℕ) → plain_of w ≡ x → put (a_of w) v ≡ effect x r → does (Ok (Put a v)) here ≡ perform P (decode w) here
+    unfolding does carry_out provided addressed
     puts x v e p = rw ea (rw (e, ← p) at carries)
 
     module _ (c : ℕ) (ec : c ≡ c_of w) (x b' : ℕ) (eb : b' ≡ b_of w) (ex : x ≡ reg r b') where
-      pub loads : opcode_of w ≡ 8 → (z : ℕ) → z ≡ sum x c → does (on_memory 1 z a (reg r a)) here ≡ perform P (decode w) here
+      pub loads : opcode_of w ≡ 8 → (z : ℕ) → z ≡ sum x c → does (Ok (Read a z)) here ≡ perform P (decode w) here
       unfolding plain_of effect does carry_out addressed
-      loads o z ez = rw (set_same r a, ez, ex, ea, eb, ec) (rw o at carries)
+      loads o z ez = rw (ez, ex, ea, eb, ec) (rw o at carries)
 
-      pub stores : opcode_of w ≡ 9 → (z : ℕ) → z ≡ sum x c → does (on_memory 2 z a (reg r a)) here ≡ perform P (decode w) here
+      pub stores : opcode_of w ≡ 9 → (z : ℕ) → z ≡ sum x c → does (Ok (Write a z (reg r a))) here ≡ perform P (decode w) here
       unfolding plain_of effect does carry_out addressed registers_after
       stores o z ez = rw (set_same r a, ez, ex, ea, eb, ec) (rw o at carries)
 
-      pub divides : opcode_of w ≡ 6 → (v : ℕ) → v ≡ x / c → does (on_register 0 a v) here ≡ perform P (decode w) here
+      pub divides : opcode_of w ≡ 6 → (v : ℕ) → v ≡ x / c → does (Ok (Put a v)) here ≡ perform P (decode w) here
       unfolding plain_of effect
       divides o v ev = rw (ev, ex, eb, ec) (puts (divide (a_of w) (b_of w) (c_of w)) _ (rw o) refl)
 
@@ -80,7 +77,7 @@ module _ (P : Routine) (b j f n : ℕ) (r m : List ℕ) (d : suc j ≡ P.long b 
         third l h = ey ∙ rw (ec, third-register w k l h)
 
         pub values : opcode_of w < 8 → (opcode_of w ≡ 6 → ⊥) → (o v : ℕ) → o ≡ opcode_of w → v ≡ value_of o x y c
-            → does (on_register 0 a v) here ≡ perform P (decode w) here
+            → does (Ok (Put a v)) here ≡ perform P (decode w) here
         unfolding plain_of effect value_of
         values h n6 o v eo ev =
             by_equality (opcode_of w) 1 (λ e. rw (ev, eo, e, ec) (puts (constant (a_of w) (c_of w)) _ (rw e) refl))
@@ -96,36 +93,29 @@ module _ (P : Routine) (b j f n : ℕ) (r m : List ℕ) (d : suc j ≡ P.long b 
 
 -- ---- an effect on memory
 
-module _ (b j f n : ℕ) (l m : List ℕ) (e : Effect) where
+module _ (b j f n : ℕ) (l m : List ℕ) (a x : ℕ) where
   abbrev before : State
   before = at b j l m f n
 
-  module _ (q : e.access ≡ 1) where
-    pub read_past : length m ≤ e.at → (s : State) → step_of 18 (putting e before) s ≡ does e before
-    unfolding step_of question_of does provided
-    read_past h s = rw (q, le-ltb e.at (length m) h)
+  pub put-done : (v : ℕ) → step_of (Ok v) (at b j (set l a v) m f n) ≡ does (Ok (Put a v)) before
+  unfolding step_of does registers_after memory_after
+  put-done v = refl
 
-    pub read_done : e.at < length m → (s : State) → step_of 0 s (past (at b j (set l e.a (get_or m e.at 0)) m f n)) ≡ does e before
-    unfolding step_of does provided registers_after memory_after
-    read_done h s = rw (q, lt-ltb e.at (length m) h)
+  pub read_past : length m ≤ x → step_of {A = ℕ} (Err q18) before ≡ does (Ok (Read a x)) before
+  unfolding step_of does provided
+  read_past h = rw (le-ltb x (length m) h)
 
-  module _ (q : e.access ≡ 2) where
-    pub write-past : length m ≤ e.at → (s : State) → step_of 18 (putting e before) s ≡ does e before
-    unfolding step_of question_of does provided
-    write-past h s = rw (q, le-ltb e.at (length m) h)
+  pub read_done : x < length m → step_of (Ok (get_or m x 0)) (at b j (set l a (get_or m x 0)) m f n) ≡ does (Ok (Read a x)) before
+  unfolding step_of does provided registers_after memory_after
+  read_done h = rw (lt-ltb x (length m) h)
 
-    pub write_done : e.at < length m → (s : State) → step_of 0 s (past (at b j (set l e.a e.v) (set m e.at e.v) f n)) ≡ does e before
-    unfolding step_of does provided registers_after memory_after
-    write_done h s = rw (q, lt-ltb e.at (length m) h)
+  pub write-past : (v : ℕ) → length m ≤ x → step_of {A = ℕ} (Err q18) before ≡ does (Ok (Write a x v)) before
+  unfolding step_of does provided
+  write-past v h = rw (le-ltb x (length m) h)
 
-  pub not-reached : (e.access ≡ 1 → ⊥) → (e.access ≡ 2 → ⊥) → step_of e.number (putting e before) (past (putting e before)) ≡ does e before
-  unfolding does
-  not-reached n1 n2 = rw (ne_eqb e.access 1 n1, ne_eqb e.access 2 n2)
-
--- registers that are those handed back
-pub taken-over : (b j f n k : ℕ) (r next m : List ℕ) (x : Step) → r ≡ next
-    → step_of k (at b j next m f n) (past (at b j next m f n)) ≡ x → step_of k (at b j r m f n) (past (at b j r m f n)) ≡ x
-taken-over b j f n k r next m x e p = rw e p
+  pub write_done : (v : ℕ) → x < length m → step_of (Ok v) (at b j (set l a v) (set m x v) f n) ≡ does (Ok (Write a x v)) before
+  unfolding step_of does provided registers_after memory_after
+  write_done v h = rw (lt-ltb x (length m) h)
 
 -- ---- the last instruction of a block
 
@@ -133,38 +123,38 @@ module _ (P : Routine) (b j f n : ℕ) (r m : List ℕ) (w count : ℕ) (ec : P.
   abbrev there : State
   there = at b j r m f n
 
-  pub refuses-last : (k : ℕ) → k ≡ form_no (decode w) true b count → (k ≡ 0 → ⊥) → exit_of (No k) there ≡ perform P (decode w) there
+  pub refuses-last : (q : Question) → refused q ≡ form_no (decode w) true b count → exit_of (Err q) there ≡ perform P (decode w) there
   unfolding exit_of perform
-  refuses-last k e z = rw (ec, eq-eqb (suc j) (P.long b) d) (form-refuses (λ q. faults q there) count b _ _ true (decode w) k e z)
+  refuses-last q e = rw (ec, eq-eqb (suc j) (P.long b) d) (form-refuses (λ q. faults q there) count b _ _ true (decode w) q e)
 
   module _ (k : Ending b count w) where
     leaves : leave there (next (end_of w) b r) ≡ perform P (decode w) there
     unfolding perform
     leaves = rw (ec, eq-eqb (suc j) (P.long b) d) (form-ending (λ q. faults q there) count b _ (λ e. leave there (next e b r)) w k)
 
-    pub halts-here : opcode_of w ≡ 0 → exit_of Halted there ≡ perform P (decode w) there
+    pub halts-here : opcode_of w ≡ 0 → exit_of (Ok Halted) there ≡ perform P (decode w) there
     unfolding exit_of next leave
     halts-here o = rw (end-halt w o) at leaves
 
+    -- taken or not, by a test
+    branches : (x : Exit) (q : Bool) (t : ℕ) → x ≡ pick q (To t) Following → pick q (enter t) (enter (suc b)) ≡ next (end_of w) b r
+        → exit_of (Ok x) there ≡ perform P (decode w) there
+    unfolding exit_of leave
+    branches x true t e p = rw e (rw (← p) at leaves)
+    branches x false t e p = rw e (rw (← p) at leaves)
+
     module _ (c : ℕ) (ew : c ≡ c_of w) where
-      pub jumps_to : opcode_of w ≡ 10 → exit_of (To c) there ≡ perform P (decode w) there
+      pub jumps_to : opcode_of w ≡ 10 → exit_of (Ok (To c)) there ≡ perform P (decode w) there
       unfolding exit_of next leave
       jumps_to o = rw ew (rw (end-jump w o) at leaves)
 
-      module _ (x : ℕ) (ex : x ≡ a_of w) where
-        pub equal-taken : opcode_of w ≡ 11 → reg r x ≡ c / 256 → exit_of (To (c % 256)) there ≡ perform P (decode w) there
-        unfolding exit_of next leave
-        equal-taken o h = rw ew (rw (end-equal w o, eq-eqb (reg r (a_of w)) (c_of w / 256) (rw (ex, ew) at h)) at leaves)
+      module _ (x : Exit) (a : ℕ) (ea : a ≡ a_of w) where
+        pub if-equal : opcode_of w ≡ 11 → x ≡ pick (eqb (reg r a) (c / 256)) (To (c % 256)) Following
+            → exit_of (Ok x) there ≡ perform P (decode w) there
+        unfolding next
+        if-equal o e = branches x _ _ e (rw (ea, ew, end-equal w o))
 
-        pub equal-left : opcode_of w ≡ 11 → (reg r x ≡ c / 256 → ⊥) → exit_of Following there ≡ perform P (decode w) there
-        unfolding exit_of next leave
-        equal-left o h = rw (end-equal w o, ne_eqb (reg r (a_of w)) (c_of w / 256) (rw (ex, ew) at h)) at leaves
-
-        module _ (y : ℕ) (ey : y ≡ b_of w) where
-          pub less-taken : opcode_of w ≡ 12 → ltb (reg r x) (reg r y) ≡ true → exit_of (To c) there ≡ perform P (decode w) there
-          unfolding exit_of next leave
-          less-taken o h = rw ew (rw (end-less w o, rw (ex, ey) at h) at leaves)
-
-          pub less-left : opcode_of w ≡ 12 → ltb (reg r x) (reg r y) ≡ false → exit_of Following there ≡ perform P (decode w) there
-          unfolding exit_of next leave
-          less-left o h = rw (end-less w o, rw (ex, ey) at h) at leaves
+        pub if-less : opcode_of w ≡ 12 → (a' : ℕ) → a' ≡ b_of w → x ≡ pick (ltb (reg r a) (reg r a')) (To c) Following
+            → exit_of (Ok x) there ≡ perform P (decode w) there
+        unfolding next
+        if-less o a' eb e = branches x _ _ e (rw (ea, eb, ew, end-less w o))

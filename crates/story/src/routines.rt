@@ -1,10 +1,41 @@
 // The routines of the example: a correction for moisture, one that is hasty, one that overwrites what was weighed, and a ranking. In all of
 // them r1 is the plot, r2 its stage and r3 its pointer.
 use super::assembly::{
-    constant, divide, halt, if_equal, jump, load, multiply, number, reference, row, store,
+    HALT, constant, divide, if_equal, jump, load, multiply, number, reference, row, store,
     subtract, tagged, typed,
 };
 use super::plots::{CORRECTED, PLOT, RAW};
+use model::RunAnswer;
+
+// A block table of B words, a code of N, and the registers of a start at block 0.
+#[derive(Drop)]
+pub struct Routine<const B: usize, const N: usize> {
+    pub blocks: [u32; B],
+    pub code: [u32; N],
+    pub registers: [u32; 8],
+}
+
+impl<const B: usize, const N: usize> Routine<B, N> {
+    // Before its first turn.
+    pub fn start(&self, memory: &mut [u32]) -> RunAnswer {
+        loader::run(&self.blocks, &self.code, memory, 0, self.registers, 0)
+    }
+
+    // A turn of one block; a routine that has halted has none.
+    pub fn turn(&self, waiting: RunAnswer, memory: &mut [u32]) -> RunAnswer {
+        if waiting.number != model::number::PAUSED {
+            return waiting;
+        }
+        loader::run(
+            &self.blocks,
+            &self.code,
+            memory,
+            waiting.block,
+            waiting.registers,
+            1,
+        )
+    }
+}
 
 // The row of a block of a correction: r1 is the plot, r4 the corrected record.
 fn correcting(blocks: &mut [u32], block: u8, length: u32) {
@@ -23,22 +54,24 @@ fn begun(blocks: &mut [u32]) {
     typed(blocks, 3, 3, reference(RAW));
 }
 
+// The second plot in r1, the corrected record in r4.
+const CORRECTING: [u32; 8] = [0, 3, 0, 0, 8, 0, 0, 0];
+
+// The second plot in r1.
+const RANKING: [u32; 8] = [0, 3, 0, 0, 0, 0, 0, 0];
+
 // Reads the stage; where it is 0 and the pointer is not, takes the raw weight times the dry share over 86, puts it in the corrected
-// record of r4, and sets stage and pointer in one block.
-pub fn correction_blocks() -> [u32; 36] {
-    let mut blocks = [0u32; 36];
+// record of r4, and sets stage and pointer in one block. The last block: two loads, 100 less the moisture, times, over 86, a store, then
+// stage and pointer.
+pub fn correction() -> Routine<36, 16> {
+    let mut blocks = [0; 36];
     begun(&mut blocks);
     correcting(&mut blocks, 3, 11);
-    blocks
-}
-
-// The last block: two loads, 100 less the moisture, times, over 86, a store, then stage and pointer.
-pub fn correction_code() -> [u32; 16] {
-    [
+    let code = [
         load(2, 1, 0),
         load(3, 1, 1),
         if_equal(2, 0, 2),
-        halt(),
+        HALT,
         if_equal(3, 0, 1),
         load(5, 3, 0),
         load(6, 3, 1),
@@ -50,33 +83,33 @@ pub fn correction_code() -> [u32; 16] {
         constant(7, 1),
         store(7, 1, 0),
         store(4, 1, 1),
-        halt(),
-    ]
+        HALT,
+    ];
+    Routine {
+        blocks,
+        code,
+        registers: CORRECTING,
+    }
 }
 
 // The same with the corrected weight stored over the raw one, and not in the corrected record.
-pub fn overwriting_code() -> [u32; 16] {
-    let mut code = correction_code();
-    code[11] = store(5, 3, 0);
-    code
+pub fn overwriting() -> Routine<36, 16> {
+    let mut routine = correction();
+    routine.code[11] = store(5, 3, 0);
+    routine
 }
 
-// The correction with the pointer set in a block of its own, after the stage.
-pub fn hasty_blocks() -> [u32; 45] {
-    let mut blocks = [0u32; 45];
+// The correction with the pointer set in a block of its own, after the stage: the stage is stored, then block 4 is jumped to.
+pub fn hasty() -> Routine<45, 17> {
+    let mut blocks = [0; 45];
     begun(&mut blocks);
     correcting(&mut blocks, 3, 10);
     correcting(&mut blocks, 4, 2);
-    blocks
-}
-
-// The stage is stored, then block 4 is jumped to.
-pub fn hasty_code() -> [u32; 17] {
-    [
+    let code = [
         load(2, 1, 0),
         load(3, 1, 1),
         if_equal(2, 0, 2),
-        halt(),
+        HALT,
         if_equal(3, 0, 1),
         load(5, 3, 0),
         load(6, 3, 1),
@@ -89,13 +122,19 @@ pub fn hasty_code() -> [u32; 17] {
         store(7, 1, 0),
         jump(4),
         store(4, 1, 1),
-        halt(),
-    ]
+        HALT,
+    ];
+    Routine {
+        blocks,
+        code,
+        registers: CORRECTING,
+    }
 }
 
-// Reads the stage; where it is 1 and the pointer is not 0, loads the corrected weight into r4.
-pub fn ranking_blocks() -> [u32; 36] {
-    let mut blocks = [0u32; 36];
+// Reads the stage; where it is 1 and the pointer is not 0, loads the corrected weight into r4: two loads and a test, a halt, a test, a load
+// and a halt.
+pub fn ranking() -> Routine<36, 7> {
+    let mut blocks = [0; 36];
     row(&mut blocks, 0, 3);
     typed(&mut blocks, 0, 1, reference(PLOT));
     row(&mut blocks, 1, 1);
@@ -103,28 +142,18 @@ pub fn ranking_blocks() -> [u32; 36] {
     typed(&mut blocks, 2, 3, tagged(number(1)));
     row(&mut blocks, 3, 2);
     typed(&mut blocks, 3, 3, reference(CORRECTED));
-    blocks
-}
-
-// Two loads and a test, a halt, a test, a load and a halt.
-pub fn ranking_code() -> [u32; 7] {
-    [
+    let code = [
         load(2, 1, 0),
         load(3, 1, 1),
         if_equal(2, 1, 2),
-        halt(),
+        HALT,
         if_equal(3, 0, 1),
         load(4, 3, 0),
-        halt(),
-    ]
-}
-
-// The correction's: the second plot in r1, the corrected record in r4.
-pub fn registers() -> [u32; 8] {
-    [0, 3, 0, 0, 8, 0, 0, 0]
-}
-
-// The ranking's: the second plot in r1.
-pub fn ranking_registers() -> [u32; 8] {
-    [0, 3, 0, 0, 0, 0, 0, 0]
+        HALT,
+    ];
+    Routine {
+        blocks,
+        code,
+        registers: RANKING,
+    }
 }

@@ -2,37 +2,28 @@
 use mathlib.Core.Path.{◌≡◌, refl, ◌∙◌}
 use mathlib.Core.Bool.{true, false}
 use mathlib.Core.List.{List}
-use Prim.Native.Nat.{ℕ, zero, suc, ◌+◌, ◌-◌, ◌*◌, ◌%◌, ◌^◌, ◌<◌, ◌≤◌}
+use Prim.Native.Nat.{ℕ, zero, suc, ◌+◌, ◌-◌, ◌%◌, ◌^◌, ◌<◌, ◌≤◌}
 use native.Mathlib.Numerals.{add-one}
 use native.Mathlib.Omega.{arith}
 use lib.Dec.{eqb}
-use lib.ListN.{get_or, set}
+use lib.ListN.{get_or}
 use borrow.Author.Tests.{ne_eqb, lt-ltb, le-ltb}
-use Rattle.model.specs.Question.{◌and◌, ◌or◌, Question, Refusal}
+use Rattle.model.specs.Question.{◌and◌, ◌or◌, ok}
+use Rattle.model.specs.declared.questions.Question.{Question}
+use Rattle.model.specs.declared.questions.Refusal.{Refusal}
 use Rattle.model.specs.Word.{kind_of, record_of, opcode_of, with_kind, signed}
 use Rattle.model.specs.Types.{type_of}
 use Rattle.model.specs.Table.{Tables, tables_of, head_of}
 use Rattle.model.specs.Machine.{constant, copy, move}
 use Rattle.model.specs.Values.{birthplace}
-use Rattle.model.specs.Reading.{Reading, laid_at, born, put_register, fresh, on_span, moves, is_size, walks, moved_word, power_of_two}
+use Rattle.model.specs.Reading.{Reading, put_register, fresh, on_span, moves, is_size, walks, moved_word, power_of_two}
 use Rattle.model.specs.Check.{value_in, read_plain}
 use Rattle.model.specs.Cost.{plain_asked}
 use Rattle.model.proofs.Logic.{by_equality, by_less}
 use Rattle.instruction.specs.Form.{plain_of}
-use Rattle.known.specs.Numbers.{frame_of}
-use Rattle.known.proofs.Numbers.{frames-set, by_kind}
-use Rattle.access.specs.State.{reading, numbered}
+use Rattle.known.proofs.Numbers.{by_kind}
+use Rattle.access.specs.State.{placing}
 use Rattle.access.proofs.Fields.{Parts}
-
--- ---- new values
-
-module _ (registers words frames constants views fields : List ℕ) (since base : ℕ) (a g w f k : ℕ)
-    (registers' words' frames' constants' : List ℕ) where
-  pub fresh-is : (registers' ≡ set registers a (8 * g)) × (words' ≡ set words (8 * g) w) × (frames' ≡ set frames g f) × (constants' ≡ set constants g k)
-      → reading registers' words' frames' constants' views fields since base
-      ≡ fresh (reading registers words frames constants views fields since base) g a w (frame_of f) k
-  unfolding fresh born laid_at
-  fresh-is (er, ew, ef, ec) = rw (er, ew, ef, ec, frames-set frames g f)
 
 -- ---- opcode 7
 
@@ -121,28 +112,28 @@ module _ {w a b c : ℕ} (p : Parts w a b c) where
 
 -- ---- the other instructions
 
-module _ {w a b c : ℕ} (p : Parts w a b c) (𝒯 : Tables) (place : Question → Refusal) (g : ℕ) (st : Reading) (z : ℕ) (ez : z ≡ 0) where
-  pub step-copy : opcode_of w ≡ 2 → numbered place z (put_register st a (value_in st b)) ≡ read_plain 𝒯 place g (plain_of w) st
-  unfolding numbered read_plain
-  step-copy o = rw (ez, plain_copy p o)
+module _ {w a b c : ℕ} (p : Parts w a b c) (𝒯 : Tables) (place : Question → Refusal) (g : ℕ) (st : Reading) where
+  pub step-copy : opcode_of w ≡ 2 → placing place (ok tt) (put_register st a (value_in st b)) ≡ read_plain 𝒯 place g (plain_of w) st
+  unfolding placing read_plain
+  step-copy o = rw (plain_copy p o)
 
   module _ (st' : Reading) where
-    pub step-constant : opcode_of w ≡ 1 → st' ≡ fresh st g a 0 0 (c + 1) → numbered place z st' ≡ read_plain 𝒯 place g (plain_of w) st
-    unfolding numbered read_plain
-    step-constant o es = rw (ez, plain-constant p o, es, add-one c)
+    pub step-constant : opcode_of w ≡ 1 → st' ≡ fresh st g a 0 0 (c + 1) → placing place (ok tt) st' ≡ read_plain 𝒯 place g (plain_of w) st
+    unfolding placing read_plain
+    step-constant o es = rw (plain-constant p o, es, add-one c)
 
     pub step_move : opcode_of w ≡ 7 → (v m f : ℕ) → v ≡ value_in st b → m ≡ moved_word 𝒯 (get_or st.values.words v 0) c
-        → f ≡ get_or st.values.frames (birthplace v) 0 → st' ≡ fresh st g a m f 0 → numbered place z st' ≡ read_plain 𝒯 place g (plain_of w) st
-    unfolding numbered read_plain
-    step_move o v m f ev em ef es = rw (ez, plain-move p o, ← ev, ← em, ← ef, es)
+        → f ≡ get_or st.values.frames (birthplace v) 0 → st' ≡ fresh st g a m f 0 → placing place (ok tt) st' ≡ read_plain 𝒯 place g (plain_of w) st
+    unfolding placing read_plain
+    step_move o v m f ev em ef es = rw (plain-move p o, ← ev, ← em, ← ef, es)
 
-    pub step-arithmetic : 2 < opcode_of w → opcode_of w < 7 → st' ≡ fresh st g a 0 0 0 → numbered place z st' ≡ read_plain 𝒯 place g (plain_of w) st
-    unfolding numbered read_plain plain_of
+    pub step-arithmetic : 2 < opcode_of w → opcode_of w < 7 → st' ≡ fresh st g a 0 0 0 → placing place (ok tt) st' ≡ read_plain 𝒯 place g (plain_of w) st
+    unfolding placing read_plain plain_of
     step-arithmetic l h es =
-        by_less (opcode_of w) 4 (λ k. let o : opcode_of w ≡ 3 = omega arith in rw (ez, es, o, p.a-is))
-        (λ g4. by_less (opcode_of w) 5 (λ k. let o : opcode_of w ≡ 4 = omega arith in rw (ez, es, o, p.a-is))
-        (λ g5. by_less (opcode_of w) 6 (λ k. let o : opcode_of w ≡ 5 = omega arith in rw (ez, es, o, p.a-is))
-        (λ g6. let o : opcode_of w ≡ 6 = omega arith in rw (ez, es, o, p.a-is))))
+        by_less (opcode_of w) 4 (λ k. let o : opcode_of w ≡ 3 = omega arith in rw (es, o, p.a-is))
+        (λ g4. by_less (opcode_of w) 5 (λ k. let o : opcode_of w ≡ 4 = omega arith in rw (es, o, p.a-is))
+        (λ g5. by_less (opcode_of w) 6 (λ k. let o : opcode_of w ≡ 5 = omega arith in rw (es, o, p.a-is))
+        (λ g6. let o : opcode_of w ≡ 6 = omega arith in rw (es, o, p.a-is))))
 
 -- ---- of instructions inside a block, only a store puts fit questions
 

@@ -1,47 +1,20 @@
 // How a block is read up to its last instruction: Q7 and Q8, new values, copies and moves. Loads and stores are `access`.
 #![tactic(auto)]
 
-ghost use Rattle.std.specs.Prelude.{◌≡◌, List, ℕ, ◌*◌, ◌%◌, ◌≤◌, ◌<◌, set, eqb, false};
-ghost use Rattle.model.specs.Question.{◌and◌};
-ghost use Rattle.model.specs.Word.{signed};
-ghost use Rattle.model.specs.Table.{tables_of, Routine};
+ghost use Rattle.std.specs.Prelude.{◌≡◌, List, ℕ, ◌%◌, ◌≤◌, ◌<◌, eqb, false};
+ghost use Rattle.model.specs.Question.{◌and◌, ok};
+ghost use Rattle.model.specs.Word.{opcode_of, signed};
+ghost use Rattle.model.specs.Table.{Routine};
 ghost use Rattle.model.specs.Machine.{decode};
 ghost use Rattle.model.specs.Reading.{power_of_two, is_size, moved_word};
 ghost use Rattle.model.specs.Check.{read_plain, read_instruction};
 ghost use Rattle.model.specs.Cost.{plain_asked, instruction_asked};
 ghost use Rattle.instruction.specs.Rows.{opcode_rows};
 ghost use Rattle.instruction.specs.Form.{plain_of, Inside};
-ghost use Rattle.known.specs.Numbers.{tables_in};
-ghost use Rattle.access.specs.State.{Sizes, Reads};
+ghost use Rattle.access.specs.State.{tables_by, Reads};
 
-use access::{Fetched, Progress};
-use model::number;
-
-// ---- new values
-
-// Register a holds a new value, born at g.
-fn fresh(
-    registers: &mut [u8; 8],
-    words: &mut [u32; 256],
-    frames: &mut [u8; 32],
-    constants: &mut [u32; 32],
-    a: usize,
-    g: usize,
-    w: u32,
-    frame: u8,
-    constant: u32,
-)
-    requires { (a < 8) × (g < 32) }
-    ensures { (registers.new ≡ set registers.old a (8 * g))
-        × (words.new ≡ set words.old (8 * g) w)
-        × (frames.new ≡ set frames.old g frame)
-        × (constants.new ≡ set constants.old g constant) }
-{
-    registers[a] = (8 * g) as u8;
-    words[8 * g] = w;
-    frames[g] = frame;
-    constants[g] = constant;
-}
+use access::{Reading, Tables};
+use model::Question;
 
 // ---- opcode 7
 
@@ -49,19 +22,13 @@ fn fresh(
 fn divides(n: u32, c: u32) -> bool
     ensures { result ≡ (power_of_two n and eqb (c % n) 0) }
 {
-    if n == 1 {
-        return true;
+    match n {
+        1 => true,
+        2 => c % 2 == 0,
+        4 => c % 4 == 0,
+        8 => c % 8 == 0,
+        _ => false,
     }
-    if n == 2 {
-        return c % 2 == 0;
-    }
-    if n == 4 {
-        return c % 4 == 0;
-    }
-    if n == 8 {
-        return c % 8 == 0;
-    }
-    false
 }
 
 // Whether opcode 7 moves an In pointer by one size. A size is at most 8, so c as it stands is the size exactly where the signed c is.
@@ -69,22 +36,18 @@ fn walks(kind: u32, size: u32, c: u32) -> bool
     requires { size ≤ 8 }
     ensures { result ≡ (eqb kind 8 and is_size size (signed c)) }
 {
-    if kind != word::IN {
-        return false;
-    }
-    c == size
+    kind == word::IN && c == size
 }
 
 // The type word after opcode 7 on a value of type word w.
-fn moved_word(types: &[u32], w: u32, c: u32) -> u32
-    requires { Sizes types.now }
-    ensures { (tags : List ℕ) → result ≡ moved_word (tables_of types.now tags) w c }
+fn moved_word(tables: &Tables, w: u32, c: u32) -> u32
+    ensures { result ≡ moved_word (tables_by tables.now) w c }
 {
     let kind = word::kind(w);
     if kind < word::RUN {
         return 0;
     }
-    let size = access::size(types, word::record_type(w));
+    let size = tables.size(word::record_type(w));
     if walks(kind, size, c) {
         return word::with_kind(word::FROM, w);
     }
@@ -96,79 +59,55 @@ fn moved_word(types: &[u32], w: u32, c: u32) -> u32
 
 // ---- one instruction
 
-// One instruction before its block's end.
-fn step(
-    types: &[u32],
-    tags: &[u32],
-    registers: &mut [u8; 8],
-    words: &mut [u32; 256],
-    frames: &mut [u8; 32],
-    constants: &mut [u32; 32],
-    views: &mut [u8; 256],
-    fields: &mut [u8; 8],
-    i: Fetched,
-) -> Progress
-    requires { Inside 1 i.word × (i.g < 32) × (i.s.number ≡ 0) × Sizes types.now × (i.s.asked ≤ 256) }
-    ensures { Reads registers words frames constants views fields i.s result
-        (λ place. read_plain (tables_in types.now tags) place i.g (plain_of i.word))
-        (plain_asked (tables_in types.now tags) (plain_of i.word)) }
+// An instruction before its block's end that is no load or store, of the word at birthplace g: nothing is asked of it.
+fn make(reading: &mut Reading, tables: &Tables, word: u32, g: usize)
+    requires { Inside 1 word × (opcode_of word < 8) × (g < 32) }
+    ensures { Reads reading.old reading.new (ok tt)
+        (λ place. read_plain (tables_by tables.now) place g (plain_of word)) (plain_asked (tables_by tables.now) (plain_of word)) }
 {
-    let word = i.word;
-    let op = word::opcode(word);
-    if instruction::LOAD <= op {
-        return access::access(
-            types, tags, registers, words, frames, constants, views, fields, i,
-        );
-    }
-    let s = i.s;
-    let g = i.g;
     let a = word::a(word);
     let b = word::b(word);
     let c = word::c(word);
-    if op == instruction::CONSTANT {
-        fresh(registers, words, frames, constants, a, g, 0, 0, c + 1);
-        return s;
+    match word::opcode(word) {
+        instruction::CONSTANT => reading.fresh(a, g, 0, 0, c + 1),
+        instruction::COPY => reading.registers[a] = reading.registers[b],
+        instruction::MOVE => {
+            let v = usize::from(reading.registers[b]);
+            let w = moved_word(tables, reading.values.words[v], c);
+            let frame = reading.values.frames[v / 8];
+            reading.fresh(a, g, w, frame, 0);
+        }
+        _ => reading.fresh(a, g, 0, 0, 0),
     }
-    if op == instruction::COPY {
-        registers[a] = registers[b];
-        return s;
-    }
-    if op < instruction::MOVE {
-        fresh(registers, words, frames, constants, a, g, 0, 0, 0);
-        return s;
-    }
-    let v = word::index(registers[b]);
-    let w = moved_word(types, words[v], c);
-    let frame = frames[v / 8];
-    fresh(registers, words, frames, constants, a, g, w, frame, 0);
-    s
 }
 
-// Q7 to Q12 and Q23 of an instruction inside a block. It is not asked Q9, so it is of no account which block it is in.
+// One instruction before its block's end, of the word at birthplace g.
+fn step(reading: &mut Reading, tables: &Tables, word: u32, g: usize) -> Result<(), Question>
+    requires { Inside 1 word × (g < 32) × (reading.old.asked ≤ 256) }
+    ensures { Reads reading.old reading.new result
+        (λ place. read_plain (tables_by tables.now) place g (plain_of word)) (plain_asked (tables_by tables.now) (plain_of word)) }
+{
+    if instruction::LOAD <= word::opcode(word) {
+        return reading.access(tables, word, g);
+    }
+    make(reading, tables, word, g);
+    Ok(())
+}
+
+// Q7 to Q12 and Q23 of an instruction inside a block, of the word at birthplace g. It is not asked Q9, so it is of no account which block
+// it is in.
 pub fn read_inside(
     rows: &[[u32; 2]; instruction::OPCODES],
-    types: &[u32],
-    tags: &[u32],
-    registers: &mut [u8; 8],
-    words: &mut [u32; 256],
-    frames: &mut [u8; 32],
-    constants: &mut [u32; 32],
-    views: &mut [u8; 256],
-    fields: &mut [u8; 8],
-    i: Fetched,
-) -> Progress
-    requires { (rows.now ≡ opcode_rows) × (i.g < 32) × (i.s.number ≡ 0) × Sizes types.now × (i.s.asked ≤ 256) }
-    ensures { (P : Routine) (b : ℕ) → Reads registers words frames constants views fields i.s result
-        (λ place. read_instruction (tables_in types.now tags) P place b i.g false (decode i.word))
-        (instruction_asked (tables_in types.now tags) P b false (decode i.word)) }
+    reading: &mut Reading,
+    tables: &Tables,
+    word: u32,
+    g: usize,
+) -> Result<(), Question>
+    requires { (rows.now ≡ opcode_rows) × (g < 32) × (reading.old.asked ≤ 256) }
+    ensures { (P : Routine) (b : ℕ) → Reads reading.old reading.new result
+        (λ place. read_instruction (tables_by tables.now) P place b g false (decode word))
+        (instruction_asked (tables_by tables.now) P b false (decode word)) }
 {
-    let word = i.word;
-    let no = instruction::form(rows, word, false, 0, 0);
-    if no != number::PASSED {
-        let s = i.s;
-        return access::refused(no, s);
-    }
-    step(
-        types, tags, registers, words, frames, constants, views, fields, i,
-    )
+    instruction::form(rows, word, false, 0, 0)?;
+    step(reading, tables, word, g)
 }

@@ -11,7 +11,8 @@ use lib.Dec.{ltb, leb, eqb}
 use lib.ListN.{length, drop, get_or, set, length-set}
 use lib.Seq.{get_or-set_same, get_or-set_other}
 use borrow.Author.Tests.{lt-ltb, le-ltb, le-leb, lt-leb, eq-eqb, ne_eqb}
-use Rattle.model.specs.Question.{◌and◌, ◌or◌, every, q2, q3, q4, q5, q6, refusal, Outcome, ok, refused, passed, refusing, verdict_of, provided}
+use Rattle.model.specs.Question.{◌and◌, ◌or◌, every, refusal, Outcome, ok, refused, passed, refusing, verdict_of, provided}
+use Rattle.model.specs.declared.questions.Question.TheVariants.{FieldCount as q2, FieldType as q3, Tag as q4, BlockLength as q5, Annotation as q6}
 use Rattle.model.specs.Word.{kind_of, locked_of, record_of, first_of, second_of}
 use Rattle.model.specs.Table.{whole_rows, well_made, head_of, words_of, rows, tables_of, count_ask, field_well, fields_ask, tag_ask, types_ask, start_of}
 use Rattle.model.specs.Table.{blocks_ask, lengths_ask, annotation_well, annotation_ask, types_questions}
@@ -125,17 +126,13 @@ place_is count n marks words f w e = rw e
 -- ---- Q2 to Q4, of one row
 
 module _ (types tags : List ℕ) (t n : ℕ) (e : n ≡ head_of types t) where
-  pub count_yes : 1 ≤ n → n ≤ 8 → count_ask (tables_of types tags) t ≡ ok tt
-  unfolding count_ask tables_of provided ◌and◌
-  count_yes l m = rw (← e, le-leb 1 n l, le-leb n 8 m)
+  pub count-yes : leb 1 n and leb n 8 ≡ true → count_ask (tables_of types tags) t ≡ ok tt
+  unfolding count_ask tables_of provided
+  count-yes h = rw (← e, h)
 
-  pub count_none : n < 1 → count_ask (tables_of types tags) t ≡ refused (refusal q2 t 0)
-  unfolding count_ask tables_of provided ◌and◌
-  count_none l = rw (← e, lt-leb 1 n l)
-
-  pub count-many : 1 ≤ n → 8 < n → count_ask (tables_of types tags) t ≡ refused (refusal q2 t 0)
-  unfolding count_ask tables_of provided ◌and◌
-  count-many l m = rw (← e, le-leb 1 n l, lt-leb n 8 m)
+  pub count-no : leb 1 n and leb n 8 ≡ false → count_ask (tables_of types tags) t ≡ refused (refusal q2 t 0)
+  unfolding count_ask tables_of provided
+  count-no h = rw (← e, h)
 
   fields-are : every 8 0 (row_well (rows types) n true (words_of types t)) ≡ every 8 0 (field_well (tables_of types tags) t)
   unfolding row_well place_well field_well tables_of every ◌or◌ ◌and◌
@@ -196,11 +193,23 @@ module _ (blocks : List ℕ) (total b i : ℕ) (whole : Outcome (Unit {0})) (e :
     unfolding blocks_ask provided
     lengths-on l = rw (e, left (rows blocks) b h, ← en, l, add-one b)
 
+    pub lengths-refused : length_well n i total ≡ false → refused (refusal q5 b 0) ≡ whole
+    unfolding blocks_ask provided
+    lengths-refused l = rw (e, left (rows blocks) b h, ← en, l)
+
     pub lengths-stop : length_well n i total ≡ false → refusing (refusal q5 b 0) ≡ verdict_of whole
     unfolding blocks_ask provided verdict_of
     lengths-stop l = rw (e, left (rows blocks) b h, ← en, l)
 
   module _ (h : b ≡ rows blocks) where
+    pub lengths-rest : (n : ℕ) → n ≡ rows blocks → (i ≡ total → ⊥) → refused (refusal q5 n 0) ≡ whole
+    unfolding blocks_ask provided
+    lengths-rest n f l = rw (e, h, f, sub_self, ne_eqb i total l)
+
+    pub lengths-passed : i ≡ total → ok tt ≡ whole
+    unfolding blocks_ask provided
+    lengths-passed l = rw (e, h, sub_self, eq-eqb i total l)
+
     pub lengths_short : (i ≡ total → ⊥) → refusing (refusal q5 (rows blocks) 0) ≡ verdict_of whole
     unfolding blocks_ask provided verdict_of
     lengths_short l = rw (e, h, sub_self, ne_eqb i total l)

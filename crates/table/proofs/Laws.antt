@@ -10,7 +10,8 @@ use lib.Seq.{take_all}
 use lib.Dec.{ltb, leb, eqb}
 use borrow.Author.Tests.{lt-ltb, le-ltb, le-leb, ne_eqb, leb-true, ltb-true, eqb-true}
 use Rattle.model.specs.declared.Verdict.{Verdict}
-use Rattle.model.specs.Question.{◌and◌, ◌or◌, pick, ok, q16, refusal, passed, refusing, verdict_of, provided, AllPassed}
+use Rattle.model.specs.Question.{◌and◌, ◌or◌, pick, ok, refusal, passed, refusing, verdict_of, provided, AllPassed}
+use Rattle.model.specs.declared.questions.Question.TheVariants.{StartBlock as q16}
 use Rattle.model.specs.Word.{kind_of, record_of, first_of, second_of}
 use Rattle.model.specs.Table.{row_of, rows, head_of, words_of, start_of, tables_of, routine_of, whole_rows, type_lengths_ask, code_lengths_ask, count_ask}
 use Rattle.model.specs.Table.{field_well, fields_ask, tag_ask, types_ask, uses_record, uses_first, uses_second, dependency, well_made, blocks_ask, lengths_ask}
@@ -183,10 +184,10 @@ pub record TypeLengths (types tags : ℕ) : Type 0 where
   pub most : types ≤ 576
   pub tagged : tags ≤ 64
 
-pub type-lengths-passed : (types tags : ℕ) (v : Verdict) → v ≡ verdict_of (type_lengths_ask types tags) → v.number ≡ 0 → TypeLengths types tags
+pub type-lengths-passed : (types tags : ℕ) → type_lengths_ask types tags ≡ ok tt → TypeLengths types tags
 unfolding type_lengths_ask
-type-lengths-passed types tags v e z =
-    let (a, q) = ask-ok (whole_rows 64 types) _ _ (no-refusal (type_lengths_ask types tags) v e z) in
+type-lengths-passed types tags e =
+    let (a, q) = ask-ok (whole_rows 64 types) _ _ e in
     let (whole, least, most) = whole-rows-facts 64 types a in
     record { whole = whole; least = least; most = most; tagged = leb-true tags 64 (ask-ok (leb tags 64) _ _ q).0 }
 
@@ -197,20 +198,20 @@ pub record CodeLengths (blocks code : ℕ) : Type 0 where
   pub some : 1 ≤ code
   pub long : code ≤ 8192
 
-pub code-lengths-passed : (blocks code : ℕ) (v : Verdict) → v ≡ verdict_of (code_lengths_ask blocks code) → v.number ≡ 0 → CodeLengths blocks code
+pub code-lengths-passed : (blocks code : ℕ) → code_lengths_ask blocks code ≡ ok tt → CodeLengths blocks code
 unfolding code_lengths_ask
-code-lengths-passed blocks code v e z =
-    let (a, q) = ask-ok (whole_rows 256 blocks) _ _ (no-refusal (code_lengths_ask blocks code) v e z) in
+code-lengths-passed blocks code e =
+    let (a, q) = ask-ok (whole_rows 256 blocks) _ _ e in
     let (b, c) = and-true (leb 1 code) _ (ask-ok (leb 1 code and leb code 8192) _ _ q).0 in
     let (whole, least, most) = whole-rows-facts 256 blocks a in
     record { whole = whole; least = least; most = most; some = leb-true 1 code b; long = leb-true code 8192 c }
 
 -- ---- Q2 to Q4 passed
 
-module _ (types tags : List ℕ) (v : Verdict) (e : v ≡ verdict_of (types_ask types tags)) (z : v.number ≡ 0) where
+module _ (types tags : List ℕ) (e : types_ask types tags ≡ ok tt) where
   each-ok : AllPassed (types_questions types tags)
   unfolding types_ask
-  each-ok = all-passed (types_questions types tags) (no-refusal (types_ask types tags) v e z)
+  each-ok = all-passed (types_questions types tags) e
 
   -- each size is 1 to 8
   pub size-bounds : (t : ℕ) → t < rows types → (1 ≤ head_of types t) × (head_of types t ≤ 8)
@@ -301,10 +302,6 @@ module _ (count : ℕ) (blocks : List ℕ) (q : annotations_ask count blocks ≡
 -- ---- Q16
 
 module _ (blocks : List ℕ) (b : ℕ) where
-  pub start-no : rows blocks ≤ b → refusing (refusal q16 0 0) ≡ verdict_of (start_ask blocks b)
-  unfolding start_ask provided verdict_of
-  start-no h = rw (le-ltb b (rows blocks) h)
-
-  pub start-yes : b < rows blocks → passed ≡ verdict_of (start_ask blocks b)
-  unfolding start_ask provided verdict_of
-  start-yes h = rw (lt-ltb b (rows blocks) h)
+  pub start-passed : start_ask blocks b ≡ ok tt → b < rows blocks
+  unfolding start_ask
+  start-passed e = ltb-true b (rows blocks) (ask-ok (ltb b (rows blocks)) _ _ e).0

@@ -11,7 +11,8 @@ use borrow.Author.Tests.{le-leb, lt-leb}
 use Rattle.model.specs.declared.Verdict.{Verdict}
 use Rattle.model.proofs.Logic.{verdict-ok}
 pub use Rattle.model.proofs.Logic.{test-false, test-true}
-use Rattle.model.specs.Question.{◌and◌, every, Refusal, Outcome, ok, refused, ask, asked, then, first_no, passed, refusing, verdict_of, in_order}
+use Rattle.model.specs.declared.questions.Refusal.{Refusal}
+use Rattle.model.specs.Question.{◌and◌, every, Outcome, ok, refused, ask, asked, then, first_no, passed, refusing, verdict_of, in_order}
 use Rattle.model.specs.Question.{provided}
 
 -- ---- tests
@@ -146,3 +147,11 @@ module _ {X : Type 0} {whole : X → Outcome (Unit {0})} {f : X → ℕ → Outc
 
   pub rows_end : (x : X) → n ≤ t → passed ≡ verdict_of (whole x)
   rows_end x h = first-end (f x) n t (whole x) (l.rest x) h
+
+  pub row-refused : (x : X) {r : Refusal} → t < n → f x t ≡ refused r → refused r ≡ whole x
+  unfolding first_no then
+  row-refused x h y = rw (l.rest x, left n t h, y)
+
+  pub rows-passed : (x : X) → n ≤ t → ok tt ≡ whole x
+  unfolding first_no
+  rows-passed x h = rw (l.rest x, sub-eq-zero_of_le h)

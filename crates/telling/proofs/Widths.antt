@@ -9,15 +9,11 @@ use lib.ListN.{length, length-append}
 use Rattle.model.specs.Question.{pick}
 use Rattle.grammar.specs.Codes.{codes}
 use Rattle.protocol.specs.Text.{decimal}
-use Rattle.output.specs.Appended.{Appended}
 use Rattle.output.specs.Digits.{printable, all_from}
 use Rattle.output.proofs.Decimals.{decimal-length, decimal-printable, all_append}
-use Rattle.output.proofs.Appending.{same_text}
-use Rattle.telling.specs.declared.Letters.{Letters}
-use Rattle.telling.specs.declared.Asked.{Asked}
+use Rattle.telling.specs.declared.Place.{Place}
 use Rattle.telling.specs.Row.{bar, letter_a, letter_b, after_byte, column_of, letter_text, written, Fine}
-use Rattle.telling.specs.Row.{has_place, answering, place, place_text, answer_text, said_text}
-use Rattle.telling.proofs.Columns.{written-plain}
+use Rattle.telling.specs.Row.{has_place, answering, place, place_text, answer_text}
 use Rattle.telling.specs.Told.{Told}
 
 -- ---- widths
@@ -27,31 +23,26 @@ first-longer true b column bs h = omega arith
 first-longer false b column bs h = omega arith
 
 -- a column is no longer than its row
-column-long : (row : List ℕ) (k : ℕ) → length (column_of k row) ≤ length row
+pub column-long : (row : List ℕ) (k : ℕ) → length (column_of k row) ≤ length row
 unfolding column_of
 column-long [] zero = omega arith
 column-long [] (suc k) = omega arith
 column-long (b ∷ bs) zero = first-longer (eqb b bar) b (column_of 0 bs) bs (column-long bs zero)
 column-long (b ∷ bs) (suc k) = omega (arith, column-long bs (after_byte (suc k) b))
 
-letter-wide : (answered is_a is_b : Bool) (first second b : ℕ)
-    → length (pick answered (pick is_a (decimal first) (pick is_b (decimal second) (b ∷ []))) (b ∷ [])) ≤ 20
-letter-wide true true is_b first second b = decimal-length first
-letter-wide true false true first second b = decimal-length second
-letter-wide true false false first second b = omega arith
-letter-wide false is_a is_b first second b = omega arith
+letter-wide : (is_a is_b : Bool) (first second b : ℕ) → length (pick is_a (decimal first) (pick is_b (decimal second) (b ∷ []))) ≤ 20
+letter-wide true is_b first second b = decimal-length first
+letter-wide false true first second b = decimal-length second
+letter-wide false false first second b = omega arith
 
 -- no letter is written as more than twenty bytes
-written-long : (l : Letters) (bs : List ℕ) → length (written l bs) ≤ 20 * length bs
+pub letter-long : (at : Place) (b : ℕ) → length (letter_text at b) ≤ 20
+letter-long at b = letter-wide (eqb b letter_a) (eqb b letter_b) at.first at.second b
+
+pub written-long : (at : Place) (bs : List ℕ) → length (written at bs) ≤ 20 * length bs
 unfolding written
-written-long l [] = omega arith
-written-long l (b ∷ bs) =
-    omega (
-      arith,
-      length-append (letter_text l b) (written l bs),
-      letter-wide l.answered (eqb b letter_a) (eqb b letter_b) l.first l.second b,
-      written-long l bs,
-    )
+written-long at [] = omega arith
+written-long at (b ∷ bs) = omega (arith, length-append (letter_text at b) (written at bs), letter-long at b, written-long at bs)
 
 -- ---- printable
 
@@ -88,33 +79,29 @@ seen-column [] (suc k) e = e
 seen-column (b ∷ bs) zero e = seen_first b bs (eqb b bar) e (seen-column bs zero (seen-tail b bs e))
 seen-column (b ∷ bs) (suc k) e = seen-column bs (after_byte (suc k) b) (seen-tail b bs e)
 
-seen-letter : (answered is_a is_b : Bool) (first second b : ℕ) → printable (b ∷ []) ≡ true
-    → printable (pick answered (pick is_a (decimal first) (pick is_b (decimal second) (b ∷ []))) (b ∷ [])) ≡ true
-seen-letter true true is_b first second b e = decimal-printable first
-seen-letter true false true first second b e = decimal-printable second
-seen-letter true false false first second b e = e
-seen-letter false is_a is_b first second b e = e
+seen-letter : (is_a is_b : Bool) (first second b : ℕ) → printable (b ∷ []) ≡ true
+    → printable (pick is_a (decimal first) (pick is_b (decimal second) (b ∷ []))) ≡ true
+seen-letter true is_b first second b e = decimal-printable first
+seen-letter false true first second b e = decimal-printable second
+seen-letter false false first second b e = e
 
-seen-written : (l : Letters) (bs : List ℕ) → printable bs ≡ true → printable (written l bs) ≡ true
+seen-written : (at : Place) (bs : List ℕ) → printable bs ≡ true → printable (written at bs) ≡ true
 unfolding written all_from
-seen-written l [] e = refl
-seen-written l (b ∷ bs) e =
-    all_append 32 126 (letter_text l b) (written l bs)
-    (seen-letter l.answered (eqb b letter_a) (eqb b letter_b) l.first l.second b (seen_other b bs [] e refl))
-    (seen-written l bs (seen-tail b bs e))
+seen-written at [] e = refl
+seen-written at (b ∷ bs) e =
+    all_append 32 126 (letter_text at b) (written at bs)
+    (seen-letter (eqb b letter_a) (eqb b letter_b) at.first at.second b (seen_other b bs [] e refl))
+    (seen-written at bs (seen-tail b bs e))
 
 -- ---- a row that can be told
 
 module _ (row : List ℕ) (f : Fine row) where
-  column-short : (k : ℕ) → length (column_of k row) ≤ 700
+  pub column-short : (k : ℕ) → length (column_of k row) ≤ 700
   column-short k = omega (arith, column-long row k, f.short)
 
-  -- a column as it is, and a column with numbers
-  pub plain-short : (l : Letters) → l.answered ≡ false → (k : ℕ) → length (written l (column_of k row)) ≤ 700
-  plain-short l e k = rw (written-plain l e (column_of k row)) (column-short k)
-
-  pub written-short : (l : Letters) (k : ℕ) → length (written l (column_of k row)) ≤ 14000
-  written-short l k = omega (arith, written-long l (column_of k row), column-short k)
+  -- a column with numbers
+  pub written-short : (at : Place) (k : ℕ) → length (written at (column_of k row)) ≤ 14000
+  written-short at k = omega (arith, written-long at (column_of k row), column-short k)
 
   -- ---- an answer in words
 
@@ -148,26 +135,12 @@ module _ (row : List ℕ) (f : Fine row) where
         place_short number first second (has_place number),
       )
 
-  said-seen' : (number first second k : ℕ) (whole : Bool) → printable (pick whole (answer_text number first second row) (column_of k row)) ≡ true
-  said-seen' number first second k true = answer-seen number first second
-  said-seen' number first second k false = seen-column row k f.seen
-
-  said-short' : (number first second k : ℕ) (whole : Bool) → length (pick whole (answer_text number first second row) (column_of k row)) ≤ 16000
-  said-short' number first second k true = answer-short number first second
-  said-short' number first second k false = omega (arith, column-short k)
-
-  pub said-seen : (a : Asked) → printable (said_text a row) ≡ true
-  said-seen a = said-seen' a.number a.first a.second a.column a.whole
-
-  pub said-short : (a : Asked) → length (said_text a row) ≤ 16000
-  said-short a = said-short' a.number a.first a.second a.column a.whole
-
   -- ---- what is promised
 
-  module _ {before : List ℕ} {n r : ℕ} {after : List ℕ} (a : Asked) where
-    pub told-whole : a.whole ≡ true → Appended before n (answer_text a.number a.first a.second row) r after
-        → Told (said_text a) before n r after
-    told-whole e x = record { row = row; seen = said-seen a; short = said-short a; appended = same_text (rw e) x }
+  pub told-column : {before after : List ℕ} (k : ℕ) → after ≡ before ++ column_of k row → Told (column_of k) before after
+  told-column k x = record { row = row; seen = seen-column row k f.seen; short = omega (arith, column-short k); appended = x }
 
-    pub told-column : a.whole ≡ false → Appended before n (column_of a.column row) r after → Told (said_text a) before n r after
-    told-column e x = record { row = row; seen = said-seen a; short = said-short a; appended = same_text (rw e) x }
+  pub told-answer : {before after : List ℕ} (number first second : ℕ) → after ≡ before ++ answer_text number first second row
+      → Told (answer_text number first second) before after
+  told-answer number first second x =
+      record { row = row; seen = answer-seen number first second; short = answer-short number first second; appended = x }

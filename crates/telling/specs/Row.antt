@@ -1,11 +1,14 @@
 -- A row: its columns in order, with bars between them. What is said of an answer is made of a row.
 use Rattle.std.specs.Prelude.{Bool, true, false, ◌≡◌, List, [], ◌∷◌, ◌++◌, ℕ, zero, suc, ◌-◌, ◌≤◌, eqb, length}
-use Rattle.model.specs.Question.{pick, number_of, q16, q17}
+use Rattle.model.specs.Question.{pick, number_of}
+use Rattle.model.specs.declared.questions.Question.TheVariants.{StartBlock as q16, MemoryLength as q17}
 use Rattle.grammar.specs.Codes.{codes}
 use Rattle.protocol.specs.Text.{decimal}
 use Rattle.output.specs.Digits.{printable}
-use Rattle.telling.specs.declared.Letters.{Letters}
-use Rattle.telling.specs.declared.Asked.{Asked}
+use Rattle.telling.specs.declared.Column.{Column}
+use Rattle.telling.specs.declared.Column.TheVariants.{Name, Meaning, Cause, Remedy}
+use Rattle.telling.specs.declared.Column.TheVariants.{Place as PlaceColumn}
+use Rattle.telling.specs.declared.Place.{Place}
 
 -- ---- columns
 
@@ -29,16 +32,21 @@ column_of k [] = []
 column_of zero (b ∷ bs) = pick (eqb b bar) [] (b ∷ column_of zero bs)
 column_of (suc k) (b ∷ bs) = column_of (after_byte (suc k) b) bs
 
--- A and B of a place are written as the numbers answered
-abbrev pub letter_text : Letters → ℕ → List ℕ
-letter_text l b =
-    pick l.answered
-    (pick (eqb b letter_a) (decimal l.first) (pick (eqb b letter_b) (decimal l.second) (b ∷ [])))
-    (b ∷ [])
+-- where a column stands in a row
+abbrev pub position : Column → ℕ
+position Name = 0
+position Meaning = 1
+position Cause = 2
+position Remedy = 3
+position PlaceColumn = 4
 
-unfoldable pub written : Letters → List ℕ → List ℕ
-written l [] = []
-written l (b ∷ bs) = letter_text l b ++ written l bs
+-- A and B of a place are written as the numbers answered
+abbrev pub letter_text : Place → ℕ → List ℕ
+letter_text at b = pick (eqb b letter_a) (decimal at.first) (pick (eqb b letter_b) (decimal at.second) (b ∷ []))
+
+unfoldable pub written : Place → List ℕ → List ℕ
+written at [] = []
+written at (b ∷ bs) = letter_text at b ++ written at bs
 
 -- ---- an answer in words
 
@@ -60,8 +68,8 @@ has_place number =
     (pick (eqb number (number_of q17)) false
     true))
 
-abbrev pub answering : ℕ → ℕ → Letters
-answering first second = record { answered = true; first = first; second = second }
+abbrev pub answering : ℕ → ℕ → Place
+answering first second = record { first = first; second = second }
 
 abbrev pub place_text : ℕ → ℕ → ℕ → List ℕ → List ℕ
 place_text number first second row = pick (has_place number) (codes "; at " ++ written (answering first second) (place row)) []
@@ -70,10 +78,6 @@ place_text number first second row = pick (has_place number) (codes "; at " ++ w
 abbrev pub answer_text : ℕ → ℕ → ℕ → List ℕ → List ℕ
 answer_text number first second row =
     codes "  # " ++ (name row ++ (codes ": " ++ (meaning row ++ place_text number first second row)))
-
--- the whole of an answer, or one column
-abbrev pub said_text : Asked → List ℕ → List ℕ
-said_text a row = pick a.whole (answer_text a.number a.first a.second row) (column_of a.column row)
 
 -- ---- rows that can be told
 

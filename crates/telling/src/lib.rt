@@ -1,165 +1,93 @@
 // What is said of a row of the table of numbers. A row is its columns in order, with bars between them: name, meaning, usual cause, remedy, place.
 #![tactic(auto)]
 
-ghost use Rattle.std.specs.Prelude.{◌≡◌, ◌+◌, ◌≤◌, length, drop};
-ghost use Rattle.output.specs.Appended.{buffer, Appended};
-ghost use Rattle.telling.specs.Row.{after_byte, column_of, letter_text, written, has_place, place_text, answer_text, said_text, Fine};
+ghost use Rattle.std.specs.Prelude.{◌≡◌, ◌++◌, ◌+◌, ◌≤◌, length};
+ghost use Rattle.output.specs.Room.{buffer};
+ghost use Rattle.telling.specs.Row.{column_of, position, letter_text, has_place, place_text, answer_text, Fine};
 ghost use Rattle.telling.specs.Told.{Told};
 
 use model::number;
+use output::Buffer;
 
-// ---- the columns of a row
+// The columns, in the order in which they stand in a row.
+#[derive(Clone, Copy, PartialEq, Eq)]
+pub enum Column {
+    Name,
+    Meaning,
+    Cause,
+    Remedy,
+    Place,
+}
 
-pub const NAME: u32 = 0;
-
-pub const MEANING: u32 = 1;
-
-pub const CAUSE: u32 = 2;
-
-pub const REMEDY: u32 = 3;
-
-pub const PLACE: u32 = 4;
-
-// How the letters A and B are written.
+// The numbers of the place that was answered: a row's last column calls them A and B.
 #[derive(Clone, Copy)]
-pub struct Letters {
-    // as the numbers answered
-    pub answered: bool,
+pub struct Place {
     pub first: u64,
     pub second: u64,
 }
 
-#[derive(Clone, Copy)]
-pub struct Asked {
-    pub number: u32,
-    // an answer in words, or else one column
-    pub whole: bool,
-    pub column: u32,
-    pub first: u64,
-    pub second: u64,
+// A column of a row, which is cut at its bars.
+fn cut(column: Column, row: &[u8]) -> &[u8]
+    ensures part { result.now ≡ column_of (position column) row.now }
+    ensures upper_bound { length result.now ≤ length row.now }
+{
+    row.split(|byte| *byte == b'|')
+        .nth(column as usize)
+        .unwrap_or(&[])
 }
 
-// ---- a column of a row
-
-fn after_byte(left: u32, byte: u8) -> u32
-    requires { 1 ≤ left }
-    ensures { result ≡ after_byte left byte }
+// A column as it stands in the row.
+pub fn said_column(out: &mut Buffer, column: Column, row: &[u8])
+    requires { Fine row.now × (length out.old + 16384 ≤ buffer) }
+    ensures { Told (column_of (position column)) out.old out.new }
 {
-    if byte == b'|' {
-        return left - 1;
-    }
-    left
-}
-
-// Where a column begins.
-fn start(k: u32, row: &[u8]) -> usize
-    ensures { (result ≤ length row.now) × (column_of 0 (drop result row.now) ≡ column_of k row.now) }
-{
-    let mut left = k;
-    let mut i = 0;
-    while i < row.len() {
-        if left == 0 {
-            return i;
-        }
-        left = after_byte(left, row[i]);
-        i += 1;
-    }
-    i
-}
-
-fn letter(out: &mut [u8; output::BUFFER], n: usize, l: Letters, byte: u8) -> usize
-    requires { n + 20 ≤ buffer }
-    ensures { Appended out.old n (letter_text l byte) result out.new }
-{
-    if !l.answered {
-        return output::put(out, n, byte);
-    }
-    if byte == b'A' {
-        return output::number(out, n, l.first);
-    }
-    if byte == b'B' {
-        return output::number(out, n, l.second);
-    }
-    output::put(out, n, byte)
-}
-
-// A column. There is room for one number more than it takes.
-fn column(out: &mut [u8; output::BUFFER], n: usize, k: u32, l: Letters, row: &[u8]) -> usize
-    requires { n + length (written l (column_of k row.now)) + 20 ≤ buffer }
-    ensures { Appended out.old n (written l (column_of k row.now)) result out.new }
-{
-    let mut at = n;
-    let mut i = start(k, row);
-    while i < row.len() {
-        let byte = row[i];
-        if byte == b'|' {
-            return at;
-        }
-        at = letter(out, at, l, byte);
-        i += 1;
-    }
-    at
+    out.text(cut(column, row));
 }
 
 // ---- an answer in words
 
-const PLAIN: Letters = Letters {
-    answered: false,
-    first: 0,
-    second: 0,
-};
+fn letter(out: &mut Buffer, place: Place, byte: u8)
+    requires { length out.old + 20 ≤ buffer }
+    ensures { out.new ≡ out.old ++ letter_text place byte }
+{
+    match byte {
+        b'A' => out.number(place.first),
+        b'B' => out.number(place.second),
+        _ => out.put(byte),
+    }
+}
 
+// Whether a row's answer has a place: a check that passed has none, and the questions of a start block and of a memory's length none but 0, 0.
 fn has_place(row: u32) -> bool
     ensures { result ≡ has_place row }
 {
-    if row == number::PASSED {
-        return false;
-    }
-    if row == number::START_BLOCK {
-        return false;
-    }
-    if row == number::MEMORY_LENGTH {
-        return false;
-    }
-    true
+    !matches!(
+        row,
+        number::PASSED | number::START_BLOCK | number::MEMORY_LENGTH
+    )
 }
 
 // The place that was answered.
-fn place(out: &mut [u8; output::BUFFER], n: usize, a: Asked, row: &[u8]) -> usize
-    requires { Fine row.now × (n + 14025 ≤ buffer) }
-    ensures { Appended out.old n (place_text a.number a.first a.second row.now) result out.new }
+fn said_place(out: &mut Buffer, number: u32, place: Place, row: &[u8])
+    requires { Fine row.now × (length out.old + 14025 ≤ buffer) }
+    ensures { out.new ≡ out.old ++ place_text number place.first place.second row.now }
 {
-    if !has_place(a.number) {
-        return n;
+    if has_place(number) {
+        out.text(b"; at ");
+        for byte in cut(Column::Place, row) {
+            letter(out, place, *byte);
+        }
     }
-    let at = output::text(out, n, b"; at ");
-    let l = Letters {
-        answered: true,
-        first: a.first,
-        second: a.second,
-    };
-    column(out, at, PLACE, l, row)
 }
 
 // Name, meaning and place.
-fn answer(out: &mut [u8; output::BUFFER], n: usize, a: Asked, row: &[u8]) -> usize
-    requires { Fine row.now × (n + 16384 ≤ buffer) }
-    ensures { Appended out.old n (answer_text a.number a.first a.second row.now) result out.new }
+pub fn answer(out: &mut Buffer, number: u32, at: Place, row: &[u8])
+    requires { Fine row.now × (length out.old + 16384 ≤ buffer) }
+    ensures { Told (answer_text number at.first at.second) out.old out.new }
 {
-    let b = output::text(out, n, b"  # ");
-    let c = column(out, b, NAME, PLAIN, row);
-    let d = output::text(out, c, b": ");
-    let e = column(out, d, MEANING, PLAIN, row);
-    place(out, e, a, row)
-}
-
-// What is asked of a row.
-pub fn said(out: &mut [u8; output::BUFFER], n: usize, a: Asked, row: &[u8]) -> usize
-    requires { Fine row.now × (n + 16384 ≤ buffer) }
-    ensures { Told (said_text a) out.old n result out.new }
-{
-    if a.whole {
-        return answer(out, n, a, row);
-    }
-    column(out, n, a.column, PLAIN, row)
+    out.text(b"  # ");
+    out.text(cut(Column::Name, row));
+    out.text(b": ");
+    out.text(cut(Column::Meaning, row));
+    said_place(out, number, at, row);
 }

@@ -1,24 +1,25 @@
 // The arguments: options, and names of inputs.
-ghost use Rattle.std.specs.Prelude.{◌≡◌, ◌≤◌, IfSome};
-ghost use Rattle.terminal.specs.Options.{is_name, wishing as wishingFor, optioned, same as sameBytes};
+ghost use Rattle.std.specs.Prelude.{◌≡◌, ◌≤◌, length, IfSome};
+ghost use Rattle.terminal.specs.Options.{is_name, optioned};
 
 use crate::help;
 use std::env::{Env, FillError};
 
-// ---- what is wished for
+// What is wished for.
+#[derive(Clone, Copy, Default, PartialEq, Eq)]
+pub enum Wish {
+    // answers
+    #[default]
+    Serve,
+    Help,
+    Version,
+    // nothing, for an argument that is no option of the program; it was named on standard error
+    Nothing,
+}
 
-pub const SERVE: u32 = 0;
-
-pub const HELP: u32 = 1;
-
-pub const VERSION: u32 = 2;
-
-// An argument that is no option of the program; it was named on standard error.
-pub const NOTHING: u32 = 3;
-
-#[derive(Clone, Copy)]
+#[derive(Clone, Copy, Default)]
 pub struct Asked {
-    pub wish: u32,
+    pub wish: Wish,
     pub worded: bool,
     pub lined: bool,
     // whether inputs are named; else there is standard input alone
@@ -34,100 +35,85 @@ pub const LONGEST: usize = 4097;
 pub fn is_name(argument: &[u8], literal: bool) -> bool
     ensures { result ≡ is_name argument.now literal }
 {
-    if literal {
-        return true;
-    }
-    if argument.len() < 2 {
-        return true;
-    }
-    argument[0] != b'-'
-}
-
-// Whether two texts are the same.
-fn same(a: &[u8], b: &[u8]) -> bool
-    ensures { result ≡ sameBytes a.now b.now }
-{
-    a == b
-}
-
-fn wishing(a: Asked, wish: u32) -> Asked
-    ensures { result ≡ wishingFor a wish }
-{
-    let mut b = a;
-    b.wish = wish;
-    b
+    literal || !matches!(argument, [b'-', _, ..])
 }
 
 // What is asked once an option is read.
-fn option(err: &impl Print, a: Asked, argument: &[u8]) -> Asked
-    ensures { result ≡ optioned a argument.now }
+#[tactic(auto, unfolding(crate::specs::Options::optioned))]
+fn option(err: &impl Print, asked: Asked, argument: &[u8]) -> Asked
+    ensures { result ≡ optioned asked argument.now }
 {
-    let mut b = a;
-    if same(argument, b"--words") {
-        b.worded = true;
-        return b;
+    let is = |text: &[u8]| argument == text;
+    if is(b"--words") {
+        Asked {
+            worded: true,
+            ..asked
+        }
+    } else if is(b"--lines") {
+        Asked {
+            lined: true,
+            ..asked
+        }
+    } else if is(b"--") {
+        Asked {
+            literal: true,
+            ..asked
+        }
+    } else if is(b"-h") || is(b"--help") {
+        Asked {
+            wish: Wish::Help,
+            ..asked
+        }
+    } else if is(b"--version") {
+        Asked {
+            wish: Wish::Version,
+            ..asked
+        }
+    } else {
+        help::unknown(err, argument);
+        Asked {
+            wish: Wish::Nothing,
+            ..asked
+        }
     }
-    if same(argument, b"--lines") {
-        b.lined = true;
-        return b;
-    }
-    if same(argument, b"--") {
-        b.literal = true;
-        return b;
-    }
-    if same(argument, b"-h") {
-        return wishing(b, HELP);
-    }
-    if same(argument, b"--help") {
-        return wishing(b, HELP);
-    }
-    if same(argument, b"--version") {
-        return wishing(b, VERSION);
-    }
-    help::unknown(err, argument);
-    wishing(b, NOTHING)
 }
 
-// Puts an argument into the buffer, and answers how long it is there; none past the last. Of one that is longer than the buffer the first
-// bytes are taken.
-pub fn taken(rt: &impl Env, i: usize, text: &mut [u8; LONGEST]) -> Option<usize>
-    ensures { IfSome result (λ n. n ≤ LONGEST) }
+// The argument of a number, put into the buffer; none past the last. Of one that is longer than the buffer the first bytes are taken.
+// This is no iterator, since each argument is lent from the same buffer.
+pub fn taken<'a>(rt: &impl Env, i: usize, room: &'a mut [u8; LONGEST]) -> Option<&'a [u8]>
+    ensures { IfSome result (λ text. length text.now ≤ LONGEST) }
 {
-    match rt.arg(i, text) {
-        Ok(n) => Some(n),
-        Err(FillError::TooLong) => Some(LONGEST),
+    match rt.arg(i, room) {
+        Ok(n) => Some(&room[..n]),
+        Err(FillError::TooLong) => Some(room),
         Err(FillError::NotPresent) => None,
     }
 }
 
 // What is asked once an argument is read, the name of an input or an option.
-fn argument(err: &impl Print, a: Asked, text: &[u8]) -> Asked {
-    if is_name(text, a.literal) {
-        let mut b = a;
-        b.named = true;
-        return b;
+fn argument(err: &impl Print, asked: Asked, text: &[u8]) -> Asked {
+    if is_name(text, asked.literal) {
+        Asked {
+            named: true,
+            ..asked
+        }
+    } else {
+        option(err, asked, text)
     }
-    option(err, a, text)
 }
 
 // What the arguments ask for; the first that wishes for another thing than answers decides.
 pub fn wished(rt: &impl Env, err: &impl Print) -> Asked {
-    let mut a = Asked {
-        wish: SERVE,
-        worded: false,
-        lined: false,
-        named: false,
-        literal: false,
-    };
-    let mut text = [0u8; LONGEST];
+    let mut asked = Asked::default();
+    let mut room = [0; LONGEST];
     for i in 1..usize::MAX {
-        match taken(rt, i, &mut text) {
-            Some(n) => a = argument(err, a, &text[..n]),
-            None => return a,
-        }
-        if a.wish != SERVE {
-            return a;
+        let Some(text) = taken(rt, i, &mut room) else {
+            break;
+        };
+        asked = argument(err, asked, text);
+        if asked.wish != Wish::Serve {
+            break;
         }
     }
-    a
+    asked
 }

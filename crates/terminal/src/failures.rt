@@ -1,90 +1,51 @@
 // What failed, said on standard error with the reason that the system gave.
-use std::fmt::Write;
-use std::{fmt, io, str};
+ghost use Rattle.std.specs.Prelude.{◌≡◌, ◌++◌, take};
 
-fn appended(text: &mut [u8; 4224], n: usize, bytes: &[u8]) -> usize {
-    let mut at = n;
-    let mut i = 0;
-    while i < bytes.len() {
-        if 4224 <= at {
-            return at;
-        }
-        text[at] = bytes[i];
-        at += 1;
-        i += 1;
-    }
-    at
-}
+use arrayvec::{ArrayString, ArrayVec};
+use std::fmt::{Display, Write as _};
+use std::io;
+use std::io::Write;
 
-// A line as it is put together; what finds no room is left out.
-#[derive(Drop)]
-struct Line {
-    text: [u8; 4224],
-    n: usize,
-}
+// The longest line.
+const LINE: usize = 4224;
 
-impl Line {
-    fn new() -> Line {
-        Line {
-            text: [0; 4224],
-            n: 0,
-        }
-    }
+// A line as it is put together. Names are bytes, so it is no text.
+type Line = ArrayVec<u8, LINE>;
 
-    fn put(&mut self, bytes: &[u8]) {
-        self.n = appended(&mut self.text, self.n, bytes);
-    }
-}
-
-impl fmt::Write for Line {
-    fn write_str(&mut self, s: &str) -> fmt::Result {
-        self.put(s.as_bytes());
-        Ok(())
-    }
-}
-
-fn front(text: &[u8], n: usize) -> &[u8] {
-    if n <= text.len() {
-        return &text[..n];
-    }
-    text
+// Puts bytes at the end of the line; what finds no room is left out.
+fn put(line: &mut Line, bytes: &[u8])
+    ensures { line.new.items ≡ take LINE (line.old.items ++ bytes.now) }
+{
+    let room = line.remaining_capacity().min(bytes.len());
+    let _ = line.try_extend_from_slice(&bytes[..room]);
 }
 
 // The system's words for a reason, without the number that std puts after them.
-fn words(shown: &[u8]) -> &[u8] {
-    match str::from_utf8(shown) {
-        Ok(text) => match text.split_once(" (os error ") {
-            Some((before, _)) => before.as_bytes(),
-            None => shown,
-        },
-        Err(_) => shown,
+fn words(shown: &str) -> &str {
+    match shown.split_once(" (os error ") {
+        Some((before, _)) => before,
+        None => shown,
     }
 }
 
-// Writes the line with the reason after it.
-fn said(err: &impl Print, line: &mut Line, why: io::Error) {
-    let mut shown = Line::new();
+// ramdulsi: NAME and PLACE: REASON, as one line.
+fn said(err: &impl Print, name: &[u8], place: impl Display + Drop, why: io::Error) {
+    let mut shown = ArrayString::<LINE>::new();
     let _ = write!(shown, "{why}");
-    line.put(b": ");
-    line.put(words(front(&shown.text, shown.n)));
-    line.put(b"\n");
-    let _ = err.write_all(front(&line.text, line.n));
+    let reason = words(shown.as_str());
+    let mut line = Line::new();
+    put(&mut line, b"ramdulsi: ");
+    put(&mut line, name);
+    let _ = writeln!(line, "{place}: {reason}");
+    let _ = err.write_all(line.as_slice());
 }
 
 // ramdulsi: NAME: REASON
 pub fn of(err: &impl Print, name: &[u8], why: io::Error) {
-    let mut line = Line::new();
-    line.put(b"ramdulsi: ");
-    line.put(name);
-    said(err, &mut line, why);
+    said(err, name, "", why);
 }
 
 // ramdulsi: NAME, line LINE: REASON, with a word on what it was that failed
-pub fn at_line(err: &impl Print, name: &[u8], line: u64, what: &[u8], why: io::Error) {
-    let mut text = Line::new();
-    text.put(b"ramdulsi: ");
-    text.put(name);
-    let _ = write!(text, ", line {line}");
-    text.put(what);
-    said(err, &mut text, why);
+pub fn at_line(err: &impl Print, name: &[u8], line: u64, what: &str, why: io::Error) {
+    said(err, name, format_args!(", line {line}{what}"), why);
 }

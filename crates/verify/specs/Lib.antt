@@ -1,2 +1,3 @@
 -- Definitions of the crate.
+pub mod Tabled
 pub mod Blocks

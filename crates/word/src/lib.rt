@@ -1,24 +1,25 @@
-// 32-bit words: sums, differences, products and moves modulo 2^32, the signed offset, bytes, and the parts of type words and instructions.
+// 32-bit words: sums, differences, products and moves modulo 2^32, the signed offset, and the parts of type words and instructions.
 #![tactic(auto)]
 
 ghost use Rattle.std.specs.Prelude.{◌≡◌, ◌/◌, ◌<◌};
 ghost use Rattle.model.specs.Word.{kind_of, locked_of, record_of, first_of, second_of, opcode_of, a_of, b_of, c_of, sum, difference, product, signed, moved, with_kind};
 
-// ---- sums, differences and products modulo 2^32
+// ---- sums, differences and products modulo 2^32: two of the library's operations, each under its own name, and a helper
 
 pub fn sum(x: u32, y: u32) -> u32
     ensures { result ≡ sum x y }
 {
-    std::num::wrapping_add_u32(x, y)
+    x.wrapping_add(y)
 }
 
 pub fn difference(x: u32, y: u32) -> u32
     ensures { result ≡ difference x y }
 {
-    std::num::wrapping_sub_u32(x, y)
+    x.wrapping_sub(y)
 }
 
 // The product of two words fits twice their width, and its low half is kept.
+#[tactic(auto, unfolding(model::specs::Word::product))]
 pub fn product(x: u32, y: u32) -> u32
     ensures { result ≡ product x y }
 {
@@ -51,27 +52,13 @@ pub fn moved(x: u32, d: i32) -> u32
 {
     let up = ((d as i64) + 4294967296) as u64;
     let offset = (up % 4294967296) as u32;
-    std::num::wrapping_add_u32(x, offset)
-}
-
-// ---- bytes
-
-// A byte as a word, and as a place of an array of 256.
-pub fn wide(x: u8) -> u32
-    ensures { (result ≡ x) × (result < 256) }
-{
-    x as u32
-}
-
-pub fn index(x: u8) -> usize
-    ensures { (result ≡ x) × (result < 256) }
-{
-    x as usize
+    x.wrapping_add(offset)
 }
 
 // ---- parts of a type word
 
-// Kinds of type words. From Tagged on they have a dependency, from Run on they are spans: a record type and two dependencies.
+// Kinds of type words. From Tagged on they have a dependency, from Run on they are spans: a record type and two dependencies. They stay
+// numbers: before Q3 and Q6 a word may have any of 128 kinds, and the contracts of all that reads kinds hold of all of these.
 pub const ANY: u32 = 0;
 
 pub const REF: u32 = 1;

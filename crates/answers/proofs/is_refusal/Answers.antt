@@ -1,12 +1,13 @@
 -- `is_refusal` meets its contract.
-use Rattle.answers.proofs.Replies.{passed-row, paused-row, other_row}
+use Rattle.std.proofs.Common.{sym, rules}
+use Rattle.answers.proofs.Replies.{refusal_none, refusal_other}
+use Rattle.answers.proofs.is_refusal.Goals.{in-0, in_default}
 use Rattle.answers.proofs.is_refusal.Goals as goal
 
-pub returns-then-row-eq-PASSED : goal.returns-then-row-eq-PASSED
-returns-then-row-eq-PASSED c = passed-row c.args.row c.if-row-eq-PASSED.true
-
-pub returns-then-row-eq-PAUSED : goal.returns-then-row-eq-PAUSED
-returns-then-row-eq-PAUSED c = let e = c.before in paused-row e.args.row e.if-row-eq-PASSED.false c.if-row-eq-PAUSED.true
-
 pub returns : goal.returns
-returns c = let e = c.before in other_row e.args.row e.if-row-eq-PASSED.false c.if-row-eq-PAUSED.false
+returns c =
+    let row = c.args.row in
+    elim c.match-matches.branch [
+      | in-0 w ↦ rw w.matches-is (sym (refusal_none row w.in-0.is))
+      | in_default w ↦ rw w.matches-is (sym (refusal_other row (search rules) (search rules) (search rules)))
+    ]

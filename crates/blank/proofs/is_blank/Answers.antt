@@ -1,22 +1,15 @@
--- `blank::is_blank` meets its contract. The invariant: the words from place f on come to what all come to.
-use mathlib.Core.Path.{refl}
-use native.Mathlib.Omega.{arith}
-use borrow.Author.Tests.{eq-eqb, ne_eqb}
-use Rattle.table.proofs.Questions.{every-on, every-stops, every-end}
+-- `blank::is_blank` meets its contract.
+use mathlib.Core.Path.{◌∙◌}
+use lib.Dec.{eqb}
+use borrow.Author.Rules.{rules}
+use borrow.Author.Tests.{tests}
+use Rattle.std.proofs.lemmas.Iterator.{YieldsList-from_slice}
+use Rattle.std.proofs.lemmas.Iterator.Search.{all_from_yields_List}
+use Rattle.blank.proofs.Laws.{all-every}
 use Rattle.blank.proofs.is_blank.Goals as goal
 
-pub loop-f-init : goal.loop-f-init
-loop-f-init c = (refl, omega arith)
-
-pub returns-then-words-f : goal.returns-then-words-f
-returns-then-words-f c =
-    let l = c.before.before.before.loop-f in
-    every-stops _ 8 l.f _ l.invariant.0 (omega arith) (ne_eqb _ _ c.if-words-f.true)
-
-pub loop-f-preserved : goal.loop-f-preserved
-loop-f-preserved c =
-    let l = c.before.before.before.loop-f in
-    (every-on _ 8 l.f _ l.invariant.0 (omega arith) (eq-eqb _ _ c.if-words-f.false), omega arith)
-
 pub returns : goal.returns
-returns c = let l = c.before.loop-f in every-end _ 8 l.f _ l.invariant.0 (omega arith)
+returns c =
+    let words = c.args.words.now in
+    all_from_yields_List (λ x. eqb x 4294967295) _ _ _ c.all.ensures.ran (YieldsList-from_slice words cc) (λ x b q k. search (rules, tests))
+    ∙ rw (all-every (λ x. eqb x 4294967295) words, c.requires)

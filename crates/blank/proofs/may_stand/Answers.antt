@@ -4,8 +4,8 @@ use Rattle.blank.proofs.may_stand.Goals as goal
 
 pub returns-then-annotation_well : goal.returns-then-annotation_well
 unfolding ◌or◌
-returns-then-annotation_well c = rw (← c.before.annotation_well.ensures, c.if-annotation_well.true)
+returns-then-annotation_well c = rw (← c.annotation_well.ensures, c.if-annotation_well.true)
 
-pub returns : goal.returns
+pub returns-else-annotation_well : goal.returns-else-annotation_well
 unfolding ◌or◌
-returns c = rw (← c.before.before.annotation_well.ensures, c.before.if-annotation_well.false) c.is_blank.ensures
+returns-else-annotation_well c = rw (← c.annotation_well.ensures, c.if-annotation_well.false) c.is_blank.ensures

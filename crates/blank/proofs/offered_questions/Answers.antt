@@ -1,23 +1,18 @@
--- `blank::offered_questions` meets its contract: past each question, those left come to what all come to.
-use mathlib.Core.Path.{◌∙◌}
-use Rattle.table.proofs.Questions.{after-yes, at-no, at_last}
+-- `blank::offered_questions` meets its contract.
+use mathlib.Core.Path.{sym, ◌∙◌}
+use native.Mathlib.Omega.{arith}
+use Rattle.model.proofs.Tests.{asked}
 use Rattle.blank.proofs.Laws.{lengths-well, four-blank, three-blank}
 use Rattle.blank.proofs.offered_questions.Goals as goal
 
-pub returns-then-fourth-ne-NO_BLOCK : goal.returns-then-fourth-ne-NO_BLOCK
-returns-then-fourth-ne-NO_BLOCK c = λ blocks most e. c.refused.ensures ∙ four-blank _ blocks _ most _ e c.before.if-fourth-ne-NO_BLOCK.true
+pub returns-in-Some : goal.returns-in-Some
+returns-in-Some c = λ blocks most e. rw c.at.ensures (four-blank _ blocks _ _ (sym c.in-Some.is ∙ e))
 
-pub returns-then-length-ne-PASSED : goal.returns-then-length-ne-PASSED
-returns-then-length-ne-PASSED c =
-    let l = c.before.before in
-    λ blocks most e. at-no (three-blank _ blocks _ most _ e l.before.if-fourth-ne-NO_BLOCK.false) l.offered_length-length.ensures c.if-length-ne-PASSED.true
+pub returns-in_err-offered_length : goal.returns-in_err-offered_length
+returns-in_err-offered_length c = λ blocks most e. let left = three-blank c.args.count blocks c.args.offered.now (sym c.in_default.is ∙ e) in grind (arith, asked)
 
 pub offered_rows-requires : goal.offered_rows-requires
-offered_rows-requires c = (lengths-well _ _ c.before.before.offered_length-length.ensures c.if-length-ne-PASSED.false).1
+offered_rows-requires c = (lengths-well _ (sym c.offered_length.ensures ∙ c.in_ok-offered_length.was)).1
 
 pub returns : goal.returns
-returns c =
-    let p = c.before in
-    let l = p.before.before in
-    λ blocks most e.
-    at_last (after-yes (three-blank _ blocks _ most _ e l.before.if-fourth-ne-NO_BLOCK.false) l.offered_length-length.ensures p.if-length-ne-PASSED.false) c.offered_rows.ensures
+returns c = λ blocks most e. let left = three-blank c.args.count blocks c.args.offered.now (sym c.in_default.is ∙ e) in grind (arith, asked)

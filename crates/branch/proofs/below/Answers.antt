@@ -3,6 +3,4 @@ use Rattle.branch.proofs.Ends.{below-told}
 use Rattle.branch.proofs.below.Goals as goal
 
 pub returns : goal.returns
-returns c =
-    let d = c.before in
-    below-told _ _ _ _ _ d.requires _ d.second_dependency-end.ensures.0 _ c.next_kind.ensures
+returns c = below-told _ _ _ c.requires _ c.second_dependency-end.ensures.0 _ c.next_kind.ensures

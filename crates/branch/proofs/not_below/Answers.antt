@@ -3,6 +3,4 @@ use Rattle.branch.proofs.Ends.{not-below-told}
 use Rattle.branch.proofs.not_below.Goals as goal
 
 pub returns : goal.returns
-returns c =
-    let d = c.before in
-    not-below-told _ _ _ _ _ d.requires _ d.first_dependency-start.ensures.0 _ c.next_kind.ensures
+returns c = not-below-told _ _ _ c.requires _ c.first_dependency-start.ensures.0 _ c.next_kind.ensures

@@ -1,16 +1,13 @@
 -- `fits::by_record` meets its contract.
 use native.Mathlib.Omega.{arith}
-use Rattle.fits.proofs.Answers.{record-ref, record-in, record-none, record-maybe}
+use Rattle.fits.proofs.Answers.{record_is, record-maybe, record-none}
 use Rattle.fits.proofs.by_record.Goals as goal
 
-pub returns-then-kind-eq-REF : goal.returns-then-kind-eq-REF
-returns-then-kind-eq-REF c = record-ref _ _ (omega arith)
+pub returns-in-1 : goal.returns-in-1
+returns-in-1 c = record_is _ _ c.in-1.is
 
-pub returns-then-kind-eq-IN : goal.returns-then-kind-eq-IN
-returns-then-kind-eq-IN c = record-in _ _ (omega arith)
+pub returns-in-2 : goal.returns-in-2
+returns-in-2 c = record-maybe _ _ (omega arith)
 
-pub returns-then-present : goal.returns-then-present
-returns-then-present c = record-none _ _ c.if-present.true (λ h. omega arith) (λ h. omega arith)
-
-pub returns : goal.returns
-returns c = record-maybe _ _ c.if-present.false (λ h. omega arith) (λ h. omega arith)
+pub returns-in_default : goal.returns-in_default
+returns-in_default c = record-none _ _ (assumption c) (λ h. omega arith)

@@ -9,5 +9,5 @@ returns-then-r-value c = partner-constant _ _ (omega arith)
 pub returns-then-r-constant : goal.returns-then-r-constant
 returns-then-r-constant c = partner-value _ _ (λ h. omega arith) (omega arith)
 
-pub returns : goal.returns
-returns c = partner-none _ _ (λ h. omega arith) (λ h. omega arith)
+pub returns-else-r-constant : goal.returns-else-r-constant
+returns-else-r-constant c = partner-none _ _ (λ h. omega arith) (λ h. omega arith)

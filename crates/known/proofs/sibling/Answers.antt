@@ -6,5 +6,5 @@ use Rattle.known.proofs.sibling.Goals as goal
 pub returns-then-x-lt-CONSTANTS : goal.returns-then-x-lt-CONSTANTS
 returns-then-x-lt-CONSTANTS c = sibling-name _ _ (omega arith) (omega arith)
 
-pub returns : goal.returns
-returns c = sibling-constant _ _ (omega arith)
+pub returns-else-x-lt-CONSTANTS : goal.returns-else-x-lt-CONSTANTS
+returns-else-x-lt-CONSTANTS c = sibling-constant _ _ (omega arith)

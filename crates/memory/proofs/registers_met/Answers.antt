@@ -1,15 +1,15 @@
 -- `memory::registers_met` meets its contract: the first register that does not meet its meaning, if any.
-use mathlib.Core.Path.{◌∙◌}
+use mathlib.Core.Path.{sym, ◌∙◌}
 use native.Mathlib.Omega.{arith}
+use Rattle.meaning.proofs.Search.{found-below}
 use Rattle.memory.proofs.Checks.{registers-stop, registers-pass}
 use Rattle.memory.proofs.registers_met.Goals as goal
 
-pub returns-then-r-lt-REGISTERS : goal.returns-then-r-lt-REGISTERS
-returns-then-r-lt-REGISTERS c = λ allocations I.
-    let m = c.before.before in
-    c.refused.ensures ∙ registers-stop _ _ _ _ _ (m.first_unmet-r.ensures allocations I) (omega arith)
+pub at-requires : goal.at-requires
+at-requires c = omega (arith, found-below _ _ _ (sym c.first_unmet.ensures ∙ c.in-Some.is), c.requires.named)
 
-pub returns : goal.returns
-returns c = λ allocations I.
-    let m = c.before.before in
-    c.passed.ensures ∙ registers-pass _ _ _ _ _ (m.first_unmet-r.ensures allocations I) (omega arith)
+pub returns-in-Some : goal.returns-in-Some
+returns-in-Some c = rw c.at.ensures (registers-stop _ _ _ _ _ (sym c.first_unmet.ensures ∙ c.in-Some.is))
+
+pub returns-in-None : goal.returns-in-None
+returns-in-None c = registers-pass _ _ _ _ _ (sym c.first_unmet.ensures ∙ c.in-None.is)

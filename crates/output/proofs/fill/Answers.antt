@@ -1,13 +1,11 @@
--- `fill` appends the last k digits of a number: after each turn one more stands in its place.
-use native.Mathlib.Omega.{arith}
-use Rattle.output.proofs.Filling.{unfilled, set-digit, filled}
+-- `fill` puts the last digits down from the last to the first.
+use Rattle.std.proofs.Common.{◌∙◌, sym, arith}
+use Rattle.output.proofs.Filling.{set-digit, all-set}
 use Rattle.output.proofs.fill.Goals as goal
 
-pub loop-at-init : goal.loop-at-init
-loop-at-init c = unfilled c.args.out.now c.args.n c.args.k c.args.value
-
 pub loop-at-preserved : goal.loop-at-preserved
-loop-at-preserved c = set-digit _ _ _ _ _ _ _ (omega arith) (omega arith) c.loop-at.invariant
+loop-at-preserved c =
+    let turn = c.loop-at in turn.invariant ∙ set-digit turn.places turn.rest turn.at (omega arith) (omega arith)
 
 pub returns : goal.returns
-returns c = filled _ _ _ _ _ _ _ (omega arith) c.loop-at.invariant
+returns c = let turn = c.loop-at in sym (turn.invariant ∙ all-set turn.places turn.rest turn.at (omega arith))

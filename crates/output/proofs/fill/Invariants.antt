@@ -1,10 +1,7 @@
--- `fill` appends the last k digits of a number: after each turn one more stands in its place.
-use Prim.Native.Nat.{◌-◌}
-use Rattle.output.proofs.Filling.{Filled}
+-- `fill` puts the last digits down from the last to the first: those that are left stand before at, and those that are put from there on.
+use Rattle.std.proofs.Common.{◌≡◌, ◌++◌, length, drop}
+use Rattle.output.specs.Digits.{last_digits}
 use Rattle.output.proofs.fill.Given as goal
 
 abbrev pub invariant-loop-at : goal.invariant-loop-at
-invariant-loop-at l = Filled l.initial.out l.n l.k l.value l.out l.at l.rest
-
-abbrev pub decreases-loop-at : goal.decreases-loop-at
-decreases-loop-at l = l.at - l.n
+invariant-loop-at l = last_digits (length l.initial.places) l.value ≡ last_digits l.at l.rest ++ drop l.at l.places

@@ -4,8 +4,8 @@ use Rattle.reader.specs.Reader.{reader}
 use Rattle.protocol.specs.Ahead.{Goes}
 use Rattle.protocol.proofs.piece.Given as goal
 
-abbrev pub invariant-loop-i : goal.invariant-loop-i
-invariant-loop-i l = Goes l.bytes (reader l.initial.m l.initial.words l.initial.ends l.initial.longs) (reader l.m l.words l.ends l.longs) 0 l.i
+abbrev pub invariant-loop-ahead : goal.invariant-loop-ahead
+invariant-loop-ahead l = Goes l.bytes (reader l.initial.ahead.line l.initial.pools) (reader l.ahead.line l.pools) 0 l.ahead.at
 
-abbrev pub decreases-loop-i : goal.decreases-loop-i
-decreases-loop-i l = length l.bytes - l.i
+abbrev pub decreases-loop-ahead : goal.decreases-loop-ahead
+decreases-loop-ahead l = length l.bytes - l.ahead.at

@@ -1,10 +1,10 @@
--- `answered`: more can be read after each line, and the lines go on through the bytes.
-use Rattle.std.proofs.Common.{length, ◌-◌}
+-- `answered`: more can be read after each line, and each line is off the rest.
+use Rattle.std.proofs.Common.{length}
 use Rattle.service.specs.Filling.{Ready}
 use Rattle.refusals.proofs.answered.Given as goal
 
-abbrev pub invariant-loop-at : goal.invariant-loop-at
-invariant-loop-at g l = Ready l.p
+abbrev pub invariant-loop-rest : goal.invariant-loop-rest
+invariant-loop-rest g l = Ready l.p l.room.out
 
-abbrev pub decreases-loop-at : goal.decreases-loop-at
-decreases-loop-at g l = length l.bytes - l.at
+abbrev pub decreases-loop-rest : goal.decreases-loop-rest
+decreases-loop-rest g l = length l.rest

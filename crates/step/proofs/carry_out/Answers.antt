@@ -1,12 +1,14 @@
--- `step::carry_out` meets its contract: what was reached goes into register a, and no other changes.
-use mathlib.Core.Path.{refl}
-use Rattle.model.proofs.Lists.{set_own}
+-- `step::carry_out` meets its contract: what was reached goes into the effect's register, and no other changes.
+use Rattle.std.proofs.lemmas.Result.{err_from_is_err_and}
+use Rattle.step.specs.Answer.{step_of}
 use Rattle.step.proofs.carry_out.Goals as goal
 
-pub returns : goal.returns
-returns c =
-    record {
-      does = rw c.with-next.ensures (λ b j f n. c.reached-d.ensures b j f n _);
-      others = set_own c.args.registers _ c.args.e.a c.reached-d.result.v c.with-next.ensures;
-      word = refl;
-    }
+pub returns-in_err-word-clause-does : goal.returns-in_err-word-clause-does
+unfolding step_of
+returns-in_err-word-clause-does c =
+    let p = err_from_is_err_and c.from_residual.result c.from_residual.ensures.1 in
+    λ b j f n. rw (p.1, p.2) (c.in_err-word.ensures b j f n _)
+
+pub returns-clause-does : goal.returns-clause-does
+unfolding step_of
+returns-clause-does c = λ b j f n. rw c.register.ensures (c.in_ok-word.ensures b j f n _)

@@ -5,22 +5,20 @@ use Rattle.model.specs.Question.{◌or◌}
 use Rattle.straight.proofs.Steps.{divides-one, divides-by, divides-other}
 use Rattle.straight.proofs.divides.Goals as goal
 
-pub returns-then-n-eq1 : goal.returns-then-n-eq1
-returns-then-n-eq1 c = let s = c.before in divides-one s.args.n s.args.c (omega arith)
+pub returns-in-1 : goal.returns-in-1
+returns-in-1 c = divides-one c.args.n c.args.c (omega arith)
 
-pub returns-then-n-eq2 : goal.returns-then-n-eq2
+pub returns-in-2 : goal.returns-in-2
 unfolding ◌or◌
-returns-then-n-eq2 c = let s = c.before.before in divides-by s.args.n s.args.c 2 refl (omega arith)
+returns-in-2 c = divides-by c.args.n c.args.c 2 refl (omega arith)
 
-pub returns-then-n-eq4 : goal.returns-then-n-eq4
+pub returns-in-4 : goal.returns-in-4
 unfolding ◌or◌
-returns-then-n-eq4 c = let s = c.before.before.before in divides-by s.args.n s.args.c 4 refl (omega arith)
+returns-in-4 c = divides-by c.args.n c.args.c 4 refl (omega arith)
 
-pub returns-then-n-eq8 : goal.returns-then-n-eq8
+pub returns-in-8 : goal.returns-in-8
 unfolding ◌or◌
-returns-then-n-eq8 c = let s = c.before.before.before.before in divides-by s.args.n s.args.c 8 refl (omega arith)
+returns-in-8 c = divides-by c.args.n c.args.c 8 refl (omega arith)
 
-pub returns : goal.returns
-returns c =
-    let s = c.before.before.before.before in
-    divides-other s.args.n s.args.c (λ h. omega arith) (λ h. omega arith) (λ h. omega arith) (λ h. omega arith)
+pub returns-in_default : goal.returns-in_default
+returns-in_default c = divides-other c.args.n c.args.c (λ h. omega arith) (λ h. omega arith) (λ h. omega arith) (λ h. omega arith)

@@ -7,10 +7,8 @@ use lib.ListN.{length, get_or}
 use Rattle.table.proofs.Laws.{row-length}
 use Rattle.table.proofs.head.Goals as goal
 
-pub bounds-own-0 : goal.bounds-own-0
-bounds-own-0 c =
-    let s = c.before.before.before in
-    omega (arith, ap length c.before.row-own.ensures ∙ row-length s.args.table.now s.args.k s.requires)
+pub bounds-row-0 : goal.bounds-row-0
+bounds-row-0 c = omega (arith, ap length c.row.ensures ∙ row-length _ _ c.requires)
 
 pub returns : goal.returns
-returns c = ap (λ (own : List ℕ). get_or own 0 0) c.before.row-own.ensures
+returns c = ap (λ (own : List ℕ). get_or own 0 0) c.row.ensures

@@ -1,26 +1,17 @@
--- `table::words_well` meets its contract. The invariant: the words from place f on come to what all come to.
-use mathlib.Core.Path.{refl, ◌∙◌}
+-- `table::words_well` meets its contract.
+use mathlib.Core.Path.{refl, sym, ◌∙◌}
 use native.Mathlib.Omega.{arith}
-use Rattle.table.proofs.Questions.{test-false, test-true, every-on, every-stops, every-end}
+use Rattle.table.proofs.Questions.{every-on, every-stops, every-end}
 use Rattle.table.proofs.Answers.{place_is}
 use Rattle.table.proofs.words_well.Goals as goal
 
-pub loop-f-init : goal.loop-f-init
-loop-f-init c = (refl, omega arith)
-
 pub returns-then-not-place_well : goal.returns-then-not-place_well
 returns-then-not-place_well c =
-    let l = c.before.before.before.before.loop-f in
-    every-stops _ 8 l.f _ l.invariant.0 (omega arith)
-    (test-false (c.before.place_well.ensures ∙ place_is _ _ _ _ _ _ refl) c.if-not-place_well.true-raw)
+    every-stops _ 8 c.loop-f.f _ c.loop-f.invariant (omega arith) (sym (place_is _ _ _ _ _ _ refl) ∙ sym c.place_well.ensures ∙ c.if-not-place_well.true)
 
 pub loop-f-preserved : goal.loop-f-preserved
 loop-f-preserved c =
-    let l = c.before.before.before.before.loop-f in (
-      every-on _ 8 l.f _ l.invariant.0 (omega arith)
-          (test-true (c.before.place_well.ensures ∙ place_is _ _ _ _ _ _ refl) c.if-not-place_well.false-raw),
-      omega arith,
-    )
+    every-on _ 8 c.loop-f.f _ c.loop-f.invariant (omega arith) (sym (place_is _ _ _ _ _ _ refl) ∙ sym c.place_well.ensures ∙ c.if-not-place_well.false)
 
 pub returns : goal.returns
-returns c = let l = c.before.loop-f in every-end _ 8 l.f _ l.invariant.0 (omega arith)
+returns c = every-end _ 8 c.loop-f.f _ c.loop-f.invariant (omega arith)

@@ -1,0 +1,10 @@
+-- A number has no more than twenty digits.
+use Rattle.std.proofs.Common.{ℕ, ap, length, length-append, arith}
+use Rattle.output.proofs.Decimals.{decimal-length}
+use Rattle.output.proofs.Buffer.field.Goals as goal
+
+pub digits_after_blank-requires : goal.digits_after_blank-requires
+digits_after_blank-requires c = omega (arith, decimal-length c.args.value)
+
+pub returns-clause-upper_bound : goal.returns-clause-upper_bound
+returns-clause-upper_bound c = omega (arith, ap length c.digits_after_blank.ensures, length-append {A = ℕ}, decimal-length c.args.value)

@@ -1,9 +1,0 @@
--- `protocol::part_words` meets its contract. The invariant: the line goes on from the words read as it would have from the first.
-use Rattle.protocol.proofs.Words.{Reached}
-use Rattle.protocol.proofs.part_words.Given as goal
-
-abbrev pub invariant-loop-left : goal.invariant-loop-left
-invariant-loop-left l = Reached l.bytes l.fn.l l.initial.words l.words l.fn.from l.at l.used l.left
-
-abbrev pub decreases-loop-left : goal.decreases-loop-left
-decreases-loop-left l = l.left
