@@ -6,7 +6,22 @@ from glob import glob
 from collections import defaultdict
 
 FN = re.compile(r"^\s*(?:pub )?(?:const )?(?:extern \"C\" )?fn (\w+)")
-FLAG = re.compile(r"(count(ed)?|found|whole|answered|equal|end|wish|number) *[!=]= *(0|[A-Z:a-z]*[A-Z_]{3,})\b")
+# What each point looks for in a line by itself: a pattern, and what is said of the place before the line.
+IN_A_LINE = {
+    1: [
+        (r"\s*(pub )?const [A-Z0-9_]+: (u8|u32|i32)\b.* = (0x)?[0-9]+;", "a number with a name: "),
+        (r".*if .*\.?number (!=|==) (number::)?PASSED", "a number asked for a refusal: "),
+        (r".*if .*\b(count|value|found|end|wish|phase|access|form)\b *(==|!=) *(0|[A-Za-z:]*[A-Z_]{4,})", "a number asked for a kind: "),
+        (r"\s*(To\(u32\)|Nothing|Neither|No\(u32\)),", "a case of Option or Result: "),
+        (r"\s*pub (whole|answered|counted|refused|failed|named): bool,", "a flag beside values: "),
+    ],
+    3: [(r"\s*(while|loop)\b", "")],
+    4: [
+        (r"\s*let mut (\w) = \w+;$", "copied and assigned: "),
+        (r"\s*(\w+): \1,$", "a field named twice: "),
+    ],
+}
+WRITTEN_BY_HAND = r"(if \w+ \{ return true; \} )+\w+|\w+ == \w+|let mut i = 0; while .*\[.*\] = .*\[.*\]; i \+= 1; \}"
 
 
 def sources():
@@ -31,8 +46,7 @@ def functions(path, lines):
                 break
             j += 1
         inside = head[head.index("(") + 1:]
-        params = re.findall(r"(?:^|[\s,(])(\w+|&mut self|&self|self)\s*(?::|,|\))", inside.split(") ->")[0])
-        params = [p for p in re.findall(r"(\w+): ", inside.split(") ->")[0])]
+        params = re.findall(r"(\w+): ", inside.split(") ->")[0])
         k = j
         while k < len(lines) and not (lines[k].rstrip().endswith("{") and not re.match(r"\s*(requires|ensures|×)", lines[k])):
             if lines[k].rstrip().endswith(";"):
@@ -46,51 +60,26 @@ def functions(path, lines):
         i = max(j + 1, i + 1)
 
 
-def enums(lines):
+def in_a_line(point, lines):
     for n, line in enumerate(lines, 1):
-        if re.match(r"\s*(pub )?enum \w+", line):
-            yield n, line.strip()
+        for pattern, said in IN_A_LINE.get(point, []):
+            if re.match(pattern, line):
+                yield n, said + line.strip()
 
 
-def point1(path, lines):
-    for n, line in enumerate(lines, 1):
-        if re.match(r"\s*(pub )?const [A-Z0-9_]+: (u8|u32|i32)\b.* = (0x)?[0-9]+;", line):
-            yield n, "a number with a name: " + line.strip()
-        if re.search(r"if .*\.?number (!=|==) (number::)?PASSED", line):
-            yield n, "a number asked for a refusal: " + line.strip()
-        if re.search(r"if .*\b(count|value|found|end|wish|phase|access|form)\b *(==|!=) *(0|[A-Za-z:]*[A-Z_]{4,})", line):
-            yield n, "a number asked for a kind: " + line.strip()
-        if re.match(r"\s*(To\(u32\)|Nothing|Neither|No\(u32\)),", line):
-            yield n, "a case of Option or Result: " + line.strip()
-        if re.match(r"\s*pub (whole|answered|counted|refused|failed|named): bool,", line):
-            yield n, "a flag beside values: " + line.strip()
-
-
-def point3(path, lines):
-    for n, line in enumerate(lines, 1):
-        if re.match(r"\s*(while|loop)\b", line):
-            yield n, line.strip()
-
-
-def point4(path, lines):
-    for n, line in enumerate(lines, 1):
-        if re.match(r"\s*let mut (\w) = \w+;$", line):
-            yield n, "copied and assigned: " + line.strip()
-        if re.match(r"\s*(\w+): \1,$", line):
-            yield n, "a field named twice: " + line.strip()
+def by_hand(path, lines):
     for name, n, params, body in functions(path, lines):
-        text = " ".join(x.strip() for x in body)
-        if re.fullmatch(r"(if \w+ \{ return true; \} )+\w+|\w+ == \w+|let mut i = 0; while .*\[.*\] = .*\[.*\]; i \+= 1; \}", text):
+        if re.fullmatch(WRITTEN_BY_HAND, " ".join(x.strip() for x in body)):
             yield n, "written by hand: fn " + name
 
 
-def point5(path, lines):
+def many_parameters(path, lines):
     for name, n, params, body in functions(path, lines):
         if len(params) >= 6:
             yield n, f"fn {name} has {len(params)} parameters"
 
 
-def point6(path, lines):
+def parallel_arrays(path, lines):
     for name, n, params, body in functions(path, lines):
         if "out" in params and "n" in params:
             yield n, f"fn {name}: a buffer and its length"
@@ -100,7 +89,7 @@ def point6(path, lines):
             yield n, f"fn {name}: parallel arrays"
 
 
-def point7(path, lines):
+def ladders(path, lines):
     for name, n, params, body in functions(path, lines):
         tests = [x for x in body if re.match(r"\s*if [\w.]+ (==|<=|<) [\w:]*[A-Z_]{2,}\w*( \{)?$", x)]
         if len(tests) >= 2:
@@ -137,16 +126,18 @@ def proofs():
 
 
 def main():
-    by_line = {1: point1, 3: point3, 4: point4, 5: point5, 6: point6, 7: point7}
+    by_function = {4: by_hand, 5: many_parameters, 6: parallel_arrays, 7: ladders}
     found = {p: [] for p in range(1, 9)}
     for path, lines in sources():
-        for p, search in by_line.items():
-            found[p] += [(path, n, what) for n, what in search(path, lines)]
+        for p in found:
+            found[p] += [(path, n, said) for n, said in in_a_line(p, lines)]
+        for p, search in by_function.items():
+            found[p] += [(path, n, said) for n, said in search(path, lines)]
     found[2] = list(twins())
     found[8] = list(proofs())
     if len(sys.argv) > 1:
-        for path, n, what in found[int(sys.argv[1])]:
-            print(f"{path}:{n}: {what}")
+        for path, n, said in found[int(sys.argv[1])]:
+            print(f"{path}:{n}: {said}")
         return
     for p in range(1, 9):
         print(f"point {p}: {len(found[p])}")
