@@ -3,8 +3,8 @@
 //!
 //! - What is known of a value is asked inside the function that wants it; what is rare is a function of its own,
 //!   `known::Values::joined` for two values that are not one and `known::Values::far_stand` for a value that a chain starts at.
-//! - The check's loop over a block's instructions has a function to itself, `verify::block`: as a part of `ramdulsi_check` it would be compiled
-//!   as seldom run.
+//! - A block's check is a function of its own, `verify::block`, and so is its loop over the block's instructions, `verify::inside`: as a part of
+//!   `ramdulsi_check` they would be compiled as seldom run.
 //! - A run copies neither its registers nor a table from instruction to instruction or from block to block: no vector register is used
 //!   where control can come from opcode 6's division and go back to it. Nor does it hand two numbers on as the halves of one register:
 //!   no shift by 32 is there. Copies before the loop and after it are free.
@@ -157,13 +157,13 @@ fn split(all: &[Instruction]) -> Result<String, String> {
     Ok(format!("{} are functions of their own, {} are none", rare.join(" and "), inside.join(", ")))
 }
 
-/// What is wrong with the check's loop over a block, and what is right.
+/// What is wrong with the check of a block and its loop, and what is right.
 fn apart(all: &[Instruction]) -> Result<String, String> {
-    if all.iter().any(|i| i.function == "verify::block") {
-        return Ok("verify::block is a function of its own".to_string());
+    let own = ["verify::block", "verify::inside"];
+    match own.iter().find(|name| !all.iter().any(|i| i.function == **name)) {
+        Some(name) => Err(format!("no function {name}; expected one of its own: verify::check asks the questions of the tables itself")),
+        None => Ok(format!("{} are functions of their own", own.join(" and "))),
     }
-    Err("no function verify::block; expected one of its own, seldom called: verify::check asks the questions of the tables itself"
-        .to_string())
 }
 
 /// What is wrong with the loop of the run, and what is right.

@@ -99,7 +99,8 @@ impl Reading {
     // Register a holds a new value, born at g, of type word w.
     pub fn fresh(&mut self, a: usize, g: usize, w: u32, frame: u8, constant: u32)
         requires { (a < 8) × (g < 32) }
-        ensures { (reading self.new ≡ fresh (reading self.old) g a w (frame_of frame) constant) × (self.new.asked ≡ self.old.asked) }
+        ensures { (reading self.new ≡ fresh (reading self.old) g a w (frame_of frame) constant) × (self.new.asked ≡ self.old.asked)
+            × (self.new.values.frames ≡ set self.old.values.frames g frame) × (self.new.views ≡ self.old.views) }
     {
         self.registers[a] = (8 * g) as u8;
         self.values.words[8 * g] = w;

@@ -12,7 +12,7 @@ use model::{Question, Refusal, limit};
 pub const BLANK_WORD: u32 = 4294967295;
 
 // In place of a block where there is none: one past the last that a routine can have. In a list of blank blocks it stands for an Option's None:
-// such a block is only ever compared with one that there is, and none of those equals it.
+// no block of a table has that number, so whether a block is blank is one comparison with each of the list, however many there are.
 pub const NO_BLOCK: usize = limit::BLOCKS;
 
 // The blank blocks of a routine, the lowest first, and a fourth, which is one too many.

@@ -1,6 +1,6 @@
 // The inputs, one after the other. What was read is answered by the service, and what it answered is written before the next read, which may
 // have to wait.
-ghost use Rattle.std.specs.Prelude.{◌≡◌, [], ◌↔◌, IsOk, Ok};
+ghost use Rattle.std.specs.Prelude.{◌≡◌, [], ◌↔◌, IfOk, IsOk, Ok};
 ghost use Rattle.service.specs.Filling.{Ready};
 
 use answers::{Room, Style};
@@ -100,31 +100,32 @@ impl<R: Files + Input + Print, E: Print> Serving<'_, R, E> {
         Ok(End::GoingOn)
     }
 
-    // What failed is said with the line that was read last.
-    fn reported(&self, name: &[u8], ended: Result<End, Failure>) -> Result<(), Reported>
-        ensures { IsOk result ↔ (ended ≡ Ok End.Read) }
+    // Whether some answer was other than 0 and 40. What failed is said with the line that was read last.
+    fn reported(&self, name: &[u8], ended: Result<End, Failure>) -> Result<bool, Reported>
+        ensures whole { IsOk result ↔ (ended ≡ Ok End.Read) }
+        ensures refused { IfOk result (λ refused. refused ≡ self.now.place.refused) }
     {
         let line = self.place.count;
         match ended {
-            Ok(End::Read) => return Ok(()),
+            Ok(End::Read) => return Ok(self.place.refused),
             Ok(End::GoingOn) => {}
-            Err(Failure::Reading(why)) => failures::at_line(self.err, name, line, "", why),
+            Err(Failure::Reading(why)) => failures::at_line(self.err, name, line, b"", why),
             Err(Failure::Writing(why)) => {
-                failures::at_line(self.err, name, line, ": standard output", why)
+                failures::at_line(self.err, name, line, b": standard output", why)
             }
         }
         Err(Reported)
     }
 
     // Standard input, which is left open.
-    fn standard(&mut self) -> Result<(), Reported> {
+    fn standard(&mut self) -> Result<bool, Reported> {
         let mut from = self.rt.reader();
         let ended = self.input(&mut from);
         self.reported(b"standard input", ended)
     }
 
     // A file by its name, closed before its failure is said.
-    fn file(&mut self, name: &[u8]) -> Result<(), Reported> {
+    fn file(&mut self, name: &[u8]) -> Result<bool, Reported> {
         match opened(self.rt, name) {
             Ok(mut from) => {
                 let ended = self.input(&mut from);
@@ -139,7 +140,7 @@ impl<R: Files + Input + Print, E: Print> Serving<'_, R, E> {
     }
 
     // An input by its name; - is standard input.
-    fn named(&mut self, name: &[u8]) -> Result<(), Reported> {
+    fn named(&mut self, name: &[u8]) -> Result<bool, Reported> {
         match name {
             b"-" => self.standard(),
             _ => self.file(name),
@@ -157,7 +158,8 @@ fn opened<R: Files>(rt: &R, name: &[u8]) -> io::Result<R::File> {
 
 impl<R: Env + Files + Input + Print, E: Print> Serving<'_, R, E> {
     // The inputs that arguments name, in their order, up to the first that fails. After --, every argument is a name.
-    fn all_named(&mut self) -> Result<(), Reported> {
+    fn all_named(&mut self) -> Result<bool, Reported> {
+        let mut refused = false;
         let mut literal = false;
         let mut room = [0; arguments::LONGEST];
         for i in 1..usize::MAX {
@@ -165,12 +167,12 @@ impl<R: Env + Files + Input + Print, E: Print> Serving<'_, R, E> {
                 break;
             };
             if arguments::is_name(text, literal) {
-                self.named(text)?;
+                refused = self.named(text)?;
             } else {
                 literal = matches!(text, b"--");
             }
         }
-        Ok(())
+        Ok(refused)
     }
 }
 
@@ -189,9 +191,8 @@ pub fn all<R: Env + Files + Input + Print>(
         room: Room::new(),
     };
     if any_named {
-        serving.all_named()?;
+        serving.all_named()
     } else {
-        serving.standard()?;
+        serving.standard()
     }
-    Ok(serving.place.refused)
 }

@@ -55,25 +55,28 @@ pub fn reference(values: &Values, tags: &[u32], v: u8) -> Option<u32>
 
 // ---- fits
 
-// Whether a value of this kind fits Tagged, or Present, where the tag wanted is one of its record type: Ref, In, and for Tagged Maybe.
+// Whether a value of this kind fits Tagged, or Present, where the tag wanted is one of its record type: Ref, In, and for Tagged Maybe. With an
+// arm for Maybe, here and in `by_own_tag`, the compiler makes a jump through a table of both; with `||` it asks of Ref too whether it is Present.
+#[tactic(auto, using(model::proofs::Tests::decided), unfolding(crate::specs::Fits::by_record))]
 fn by_record(kind: u32, present: bool) -> bool
     ensures { result ≡ by_record present kind }
 {
     match kind {
         word::REF | word::IN => true,
-        word::MAYBE => !present,
-        _ => false,
+        _ if present => false,
+        _ => kind == word::MAYBE,
     }
 }
 
 // Whether it does so where its own tag is known equal to the one wanted: Present, and for Tagged Tagged.
+#[tactic(auto, using(model::proofs::Tests::decided), unfolding(crate::specs::Fits::by_own_tag))]
 fn by_own_tag(kind: u32, present: bool) -> bool
     ensures { result ≡ by_own_tag present kind }
 {
     match kind {
         word::PRESENT => true,
-        word::TAGGED => !present,
-        _ => false,
+        _ if present => false,
+        _ => kind == word::TAGGED,
     }
 }
 

@@ -11,7 +11,7 @@ use output::Buffer;
 use std::io;
 
 // Half of the buffer: what is put at one time is no longer, and nothing is put after as much.
-const HALF: usize = 1000000;
+pub const HALF: usize = 1000000;
 
 // The words that are put at one time: eleven bytes each.
 const WORDS: usize = 90000;

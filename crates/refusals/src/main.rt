@@ -44,7 +44,7 @@ fn columns(page: &mut Page, row: u32) {
         Column::Place,
     ] {
         page.text(b" | ");
-        page.add(|buffer: &mut Buffer| words::column(buffer, row, column));
+        page.add(|buffer: &mut Buffer| words::column(buffer, row, column as u32));
     }
     page.text(b" |\n");
 }

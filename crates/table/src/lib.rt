@@ -243,13 +243,14 @@ pub fn types(types: &[u32], tags: &[u32]) -> Result<(), Refusal>
 
 // ---- Q5 and Q6
 
-// Whether a block of n instructions from code index i on is in range and inside the code.
+// Whether a block of n instructions from code index i on is in range and inside the code. Asked by `contains`, the range would be two tests
+// for each block and not one, with which a run of no blocks takes up to a half longer.
 #[tactic(auto, using(model::proofs::Tests::decided))]
 fn length_well(n: u32, i: u32, total: u32) -> bool
     requires { i ≤ 8192 }
     ensures { result ≡ (leb 1 n and leb n 32 and leb (i + n) total) }
 {
-    (1..=limit::BLOCK_LENGTH).contains(&n) && i + n <= total
+    1 <= n && n <= limit::BLOCK_LENGTH && i + n <= total
 }
 
 // Q5. Where it passes, starts has the code index at which each block starts, and the code's length after the last.

@@ -7,16 +7,11 @@ use native.Mathlib.Numerals.{unary_clauses}
 use lib.Dec.{eqb}
 use lib.ListN.{get_or}
 use denote.Ref.{Bor}
-use denote.Enum.Declared.{tag_of}
 use Rattle.std.specs.List.{slice_split, slice_get, onto_first}
 use Rattle.std.specs.Option.{option_map, unwrap_or}
 use Rattle.std.specs.Prelude.{Option, None, Some}
 use Rattle.std.proofs.lemmas.Option.{unwrap_or-slice_get}
-use Rattle.telling.specs.declared.Column.{Column}
-use Rattle.telling.specs.declared.Column.TheVariants.{Name, Meaning, Cause, Remedy}
-use Rattle.telling.specs.declared.Column.TheVariants.{Place as PlaceColumn}
-use Rattle.telling.specs.contracts.Column.{the_type}
-use Rattle.telling.specs.Row.{bar, column_of, position}
+use Rattle.telling.specs.Row.{bar, column_of}
 
 -- whether a byte is a bar
 abbrev pub is_bar : ℕ → Bool
@@ -53,19 +48,10 @@ now-unwrap : (r : Option (Bor (List ℕ))) (d : Bor (List ℕ)) → (unwrap_or r
 now-unwrap None d = refl
 now-unwrap (Some x) d = refl
 
--- a column's number is its place
-number-is : (k : Column) → tag_of the_type k ≡ position k
-number-is Name = refl
-number-is Meaning = refl
-number-is Cause = refl
-number-is Remedy = refl
-number-is PlaceColumn = refl
-
 -- the part that was found, or nothing, is the column
-pub column_found : (k : Column) (row : List ℕ) (r : Option (Bor (List ℕ))) (d : Bor (List ℕ)) → d.now ≡ []
-    → option_map (λ x. x.now) r ≡ slice_get (slice_split is_bar row) (tag_of the_type k) → (unwrap_or r d).now ≡ column_of (position k) row
+pub column_found : (k : ℕ) (row : List ℕ) (r : Option (Bor (List ℕ))) (d : Bor (List ℕ)) → d.now ≡ []
+    → option_map (λ x. x.now) r ≡ slice_get (slice_split is_bar row) k → (unwrap_or r d).now ≡ column_of k row
 column_found k row r d none found =
     now-unwrap r d
-    ∙ rw (found, none) (unwrap_or-slice_get (slice_split is_bar row) (tag_of the_type k) [])
-    ∙ sym (column-is (tag_of the_type k) row)
-    ∙ ap (λ n. column_of n row) (number-is k)
+    ∙ rw (found, none) (unwrap_or-slice_get (slice_split is_bar row) k [])
+    ∙ sym (column-is k row)

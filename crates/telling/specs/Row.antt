@@ -5,9 +5,6 @@ use Rattle.model.specs.declared.questions.Question.TheVariants.{StartBlock as q1
 use Rattle.grammar.specs.Codes.{codes}
 use Rattle.protocol.specs.Text.{decimal}
 use Rattle.output.specs.Digits.{printable}
-use Rattle.telling.specs.declared.Column.{Column}
-use Rattle.telling.specs.declared.Column.TheVariants.{Name, Meaning, Cause, Remedy}
-use Rattle.telling.specs.declared.Column.TheVariants.{Place as PlaceColumn}
 use Rattle.telling.specs.declared.Place.{Place}
 
 -- ---- columns
@@ -31,14 +28,6 @@ unfoldable pub column_of : ℕ → List ℕ → List ℕ
 column_of k [] = []
 column_of zero (b ∷ bs) = pick (eqb b bar) [] (b ∷ column_of zero bs)
 column_of (suc k) (b ∷ bs) = column_of (after_byte (suc k) b) bs
-
--- where a column stands in a row
-abbrev pub position : Column → ℕ
-position Name = 0
-position Meaning = 1
-position Cause = 2
-position Remedy = 3
-position PlaceColumn = 4
 
 -- A and B of a place are written as the numbers answered
 abbrev pub letter_text : Place → ℕ → List ℕ

@@ -3,13 +3,13 @@
 
 ghost use Rattle.std.specs.Prelude.{◌≡◌, ◌++◌, ◌+◌, ◌≤◌, length};
 ghost use Rattle.output.specs.Room.{buffer};
-ghost use Rattle.telling.specs.Row.{column_of, position, letter_text, has_place, place_text, answer_text, Fine};
+ghost use Rattle.telling.specs.Row.{column_of, letter_text, has_place, place_text, answer_text, Fine};
 ghost use Rattle.telling.specs.Told.{Told};
 
 use model::number;
 use output::Buffer;
 
-// The columns, in the order in which they stand in a row.
+// The columns, in the order in which they stand in a row: the number of each is its place.
 #[derive(Clone, Copy, PartialEq, Eq)]
 pub enum Column {
     Name,
@@ -26,9 +26,9 @@ pub struct Place {
     pub second: u64,
 }
 
-// A column of a row, which is cut at its bars.
-fn cut(column: Column, row: &[u8]) -> &[u8]
-    ensures part { result.now ≡ column_of (position column) row.now }
+// A column of a row, which is cut at its bars; nothing of a column that there is not.
+fn cut(column: u32, row: &[u8]) -> &[u8]
+    ensures part { result.now ≡ column_of column row.now }
     ensures upper_bound { length result.now ≤ length row.now }
 {
     row.split(|byte| *byte == b'|')
@@ -36,10 +36,11 @@ fn cut(column: Column, row: &[u8]) -> &[u8]
         .unwrap_or(&[])
 }
 
-// A column as it stands in the row.
-pub fn said_column(out: &mut Buffer, column: Column, row: &[u8])
+// A column as it stands in the row, by its number; nothing of a column that there is not.
+pub fn said_column(out: &mut Buffer, column: u32, row: &[u8])
     requires { Fine row.now × (length out.old + 16384 ≤ buffer) }
-    ensures { Told (column_of (position column)) out.old out.new }
+    ensures text { out.new ≡ out.old ++ column_of column row.now }
+    ensures told { Told (column_of column) out.old out.new }
 {
     out.text(cut(column, row));
 }
@@ -74,7 +75,7 @@ fn said_place(out: &mut Buffer, number: u32, place: Place, row: &[u8])
 {
     if has_place(number) {
         out.text(b"; at ");
-        for byte in cut(Column::Place, row) {
+        for byte in cut(Column::Place as u32, row) {
             letter(out, place, *byte);
         }
     }
@@ -83,11 +84,12 @@ fn said_place(out: &mut Buffer, number: u32, place: Place, row: &[u8])
 // Name, meaning and place.
 pub fn answer(out: &mut Buffer, number: u32, at: Place, row: &[u8])
     requires { Fine row.now × (length out.old + 16384 ≤ buffer) }
-    ensures { Told (answer_text number at.first at.second) out.old out.new }
+    ensures text { out.new ≡ out.old ++ answer_text number at.first at.second row.now }
+    ensures told { Told (answer_text number at.first at.second) out.old out.new }
 {
     out.text(b"  # ");
-    out.text(cut(Column::Name, row));
+    out.text(cut(Column::Name as u32, row));
     out.text(b": ");
-    out.text(cut(Column::Meaning, row));
+    out.text(cut(Column::Meaning as u32, row));
     said_place(out, number, at, row);
 }

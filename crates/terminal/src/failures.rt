@@ -28,24 +28,26 @@ fn words(shown: &str) -> &str {
     }
 }
 
-// ramdulsi: NAME and PLACE: REASON, as one line.
-fn said(err: &impl Print, name: &[u8], place: impl Display + Drop, why: io::Error) {
+// ramdulsi: NAME, PLACE and WHAT: REASON, as one line.
+fn said(err: &impl Print, name: &[u8], place: impl Display + Drop, what: &[u8], why: io::Error) {
     let mut shown = ArrayString::<LINE>::new();
     let _ = write!(shown, "{why}");
     let reason = words(shown.as_str());
     let mut line = Line::new();
     put(&mut line, b"ramdulsi: ");
     put(&mut line, name);
-    let _ = writeln!(line, "{place}: {reason}");
+    let _ = write!(line, "{place}");
+    put(&mut line, what);
+    let _ = writeln!(line, ": {reason}");
     let _ = err.write_all(line.as_slice());
 }
 
 // ramdulsi: NAME: REASON
 pub fn of(err: &impl Print, name: &[u8], why: io::Error) {
-    said(err, name, "", why);
+    said(err, name, "", b"", why);
 }
 
 // ramdulsi: NAME, line LINE: REASON, with a word on what it was that failed
-pub fn at_line(err: &impl Print, name: &[u8], line: u64, what: &str, why: io::Error) {
-    said(err, name, format_args!(", line {line}{what}"), why);
+pub fn at_line(err: &impl Print, name: &[u8], line: u64, what: &[u8], why: io::Error) {
+    said(err, name, format_args!(", line {line}"), what, why);
 }

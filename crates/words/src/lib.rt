@@ -6,11 +6,11 @@ mod rows;
 
 ghost use Rattle.std.specs.Prelude.{◌+◌, ◌≤◌, length};
 ghost use Rattle.output.specs.Room.{buffer};
-ghost use Rattle.telling.specs.Row.{column_of, position, answer_text};
+ghost use Rattle.telling.specs.Row.{column_of, answer_text};
 ghost use Rattle.telling.specs.Told.{Told};
 
 use output::Buffer;
-use telling::{Column, Place};
+use telling::Place;
 
 // ---- the rows beside those of the questions, which have their numbers
 
@@ -19,10 +19,10 @@ pub const HALTED: u32 = 100;
 // A line that is no request.
 pub const MALFORMED: u32 = 101;
 
-// A column of a row; nothing for a number that is no answer.
-pub fn column(out: &mut Buffer, row: u32, column: Column)
+// A column of a row; nothing for a number that is no answer, and nothing of a column that there is not.
+pub fn column(out: &mut Buffer, row: u32, column: u32)
     requires { length out.old + 16384 ≤ buffer }
-    ensures { Told (column_of (position column)) out.old out.new }
+    ensures { Told (column_of column) out.old out.new }
 {
     telling::said_column(out, column, rows::row(row));
 }

@@ -14,7 +14,7 @@ parts c = record { a-is = c.a-a.ensures.0; b-is = c.b-b.ensures.0; c-is = c.c-c.
 
 pub returns-in-1 : goal.returns-in-1
 returns-in-1 c =
-    let (is, asked) = c.fresh.ensures in
+    let (is, asked, frames, views) = c.fresh.ensures in
     record {
       outcome = λ place. step-constant (parts (goal.at.returns-in-1 c).After-c-c) _ _ _ _ _ (sym c.opcode.ensures.0 ∙ c.in-1.is) is;
       count = none_more asked (plain-unasked _ _ _ c.requires.1);
@@ -29,7 +29,7 @@ returns-in-2 c =
 
 pub returns-in-7 : goal.returns-in-7
 returns-in-7 c =
-    let (is, asked) = c.fresh-in-7.ensures in
+    let (is, asked, frames, views) = c.fresh-in-7.ensures in
     record {
       outcome = λ place. step_move (parts (goal.at.returns-in-7 c).After-c-c) _ _ _ _ _ (sym c.opcode.ensures.0 ∙ c.in-7.is) _ _ _
           c.from-v.ensures c.moved_word-w.ensures (frames-at c.args.reading.now.values.frames _) is;
@@ -38,7 +38,7 @@ returns-in-7 c =
 
 pub returns-in_default : goal.returns-in_default
 returns-in_default c =
-    let (is, asked) = c.fresh-in_default.ensures in
+    let (is, asked, frames, views) = c.fresh-in_default.ensures in
     record {
       outcome = λ place. step-arithmetic (parts (goal.at.returns-in_default c).After-c-c) _ _ _ _ _ (omega arith) (omega arith) is;
       count = none_more asked (plain-unasked _ _ _ c.requires.1);
