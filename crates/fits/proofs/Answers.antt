@@ -153,6 +153,42 @@ module _ (𝒯 : Tables) (vs : Values) where
     pub reference-told : (a : (Option ℕ)) → a ≡ reference_by (refers_of s) → a ≡ reference_of 𝒯 vs ty
     reference-told a ea = ea ∙ ap (λ x. reference_by (refers_of x)) (sym is) ∙ ap reference_by e ∙ reference-by ty
 
+-- how a kind fits Tagged, and Present
+module _ (present : Bool) (k : ℕ) where
+  record-ref : k ≡ 1 → true ≡ by_record present k
+  unfolding by_record ◌or◌
+  record-ref e = by_test present (λ q. rw (q, e)) (λ q. rw (q, e))
+
+  record-in : k ≡ 8 → true ≡ by_record present k
+  unfolding by_record ◌or◌
+  record-in e = by_test present (λ q. rw (q, e)) (λ q. rw (q, e))
+
+  pub record_is : (k ≡ 1) ⊎ (k ≡ 8) → true ≡ by_record present k
+  record_is h = ⊎_elim record-ref record-in h
+
+  pub record-maybe : k ≡ 2 → not present ≡ by_record present k
+  unfolding by_record ◌or◌
+  record-maybe e = by_test present (λ q. rw (q, e)) (λ q. rw (q, e))
+
+  pub record-none : ((k ≡ 1) ⊎ (k ≡ 8) → ⊥) → (k ≡ 2 → ⊥) → false ≡ by_record present k
+  unfolding by_record ◌or◌
+  record-none n n2 =
+      let e1 = ne_eqb k 1 (λ e. n (inl e)) in
+      let e8 = ne_eqb k 8 (λ e. n (inr e)) in
+      by_test present (λ q. rw (q, e1, e8)) (λ q. rw (q, e1, e8, ne_eqb k 2 n2))
+
+  pub own-present : k ≡ 4 → true ≡ by_own_tag present k
+  unfolding by_own_tag ◌or◌
+  own-present e = by_test present (λ q. rw (q, e)) (λ q. rw (q, e))
+
+  pub own-tagged : k ≡ 3 → not present ≡ by_own_tag present k
+  unfolding by_own_tag ◌or◌
+  own-tagged e = by_test present (λ q. rw (q, e)) (λ q. rw (q, e))
+
+  pub own-none : (k ≡ 4 → ⊥) → (k ≡ 3 → ⊥) → false ≡ by_own_tag present k
+  unfolding by_own_tag ◌or◌
+  own-none n4 n3 = by_test present (λ q. rw (q, ne_eqb k 4 n4)) (λ q. rw (q, ne_eqb k 4 n4, ne_eqb k 3 n3))
+
 -- ---- the type wanted, by its kind
 
 module _ (𝒯 : Tables) (vs : Values) (v w : ℕ) (names : List ℕ) (k : ℕ) (ek : k ≡ kind_of w) where
