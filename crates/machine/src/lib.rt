@@ -1,7 +1,7 @@
 // The machine: a block, and a run with its opening questions.
 #![tactic(auto)]
 
-ghost use Rattle.std.specs.Prelude.{◌≡◌, ◌≢◌, ℕ, ◌+◌, ◌-◌, ◌/◌, ◌<◌, ◌≤◌, length, get_or, IfErr};
+ghost use Rattle.std.specs.Prelude.{◌≡◌, ◌≢◌, [], ◌∷◌, ◌++◌, ℕ, ◌+◌, ◌-◌, ◌/◌, ◌<◌, ◌≤◌, length, get_or, IfErr};
 ghost use Rattle.model.specs.Question.{ok};
 ghost use Rattle.model.specs.Table.{Routine, code_of};
 ghost use Rattle.model.specs.Machine.{steps, run, run_ask, returned, ready};
@@ -33,26 +33,29 @@ fn located<T>(answer: Result<T, Question>, at: usize) -> Result<T, Fault>
     }
 }
 
-// A block, whose code is one part of the code table.
+// A block: the part of the code table with all of it but its last word, and that word.
 fn run_block(
     rows: &[[u32; 2]; instruction::OPCODES],
-    part: &[u32],
+    body: &[u32],
+    last_word: u32,
     registers: &mut [u32; 8],
     memory: &mut [u32],
     b: u32,
     count: u32,
 ) -> Result<Exit, Fault>
-    requires { (rows.now ≡ opcode_rows) × (1 ≤ length part.now) × (b < 4294967295) }
-    ensures steps { (P : Routine) (f n : ℕ) → P.count ≡ count → Covers P b part.now
-        → exit_of (exit_in result) (at b (offset_of part.now result) registers.new memory.new f (n + offset_of part.now result))
+    requires { (rows.now ≡ opcode_rows) × (b < 4294967295) }
+    ensures steps { let part = body.now ++ last_word ∷ [] in (P : Routine) (f n : ℕ) → P.count ≡ count → Covers P b part
+        → exit_of (exit_in result) (at b (offset_of part result) registers.new memory.new f (n + offset_of part result))
         ≡ steps P (P.long b) (at b 0 registers.old memory.old f n) }
-    ensures place { IfErr result (λ e. e.at < length part.now) }
+    ensures place { IfErr result (λ e. e.at ≤ length body.now) }
 {
-    let last = part.len() - 1;
-    for (i, &w) in part[..last].iter().enumerate() {
+    for (i, &w) in body.iter().enumerate() {
         located(step::advance(rows, registers, memory, w), i)?;
     }
-    located(step::leave(rows, registers, part[last], b, count), last)
+    located(
+        step::leave(rows, registers, last_word, b, count),
+        body.len(),
+    )
 }
 
 // ---- a run
@@ -71,8 +74,9 @@ fn answer(number: u32, block: u32, index: u32, finished: u64, registers: [u32; 8
 }
 
 // A budget of blocks, from the first instruction of a block that exists; starts has where each block starts. The block after another
-// starts where that ends: taken from there, a test of data stays a branch, and the next block does not wait for it. The tables stay parameters,
-// since no other function would take a struct of them.
+// starts where that ends: taken from there, a test of data stays a branch, and the next block does not wait for it. A block's last word is found by
+// where the block ends: as an index into its part it would be found by where the block starts too, and blocks of a jump alone take an eighth longer.
+// The tables stay parameters, since no other function would take a struct of them.
 fn run_blocks(
     blocks: &[u32],
     code: &[u32],
@@ -93,7 +97,16 @@ fn run_blocks(
     let mut current = registers;
     for finished in 0..budget {
         let end = starts[b as usize + 1] as usize;
-        let exit = match run_block(&rows, &code[first..end], &mut current, memory, b, count) {
+        let part = &code[first..end];
+        let exit = match run_block(
+            &rows,
+            &part[..part.len() - 1],
+            code[end - 1],
+            &mut current,
+            memory,
+            b,
+            count,
+        ) {
             Ok(exit) => exit,
             Err(fault) => {
                 let number = fault.question.number();
