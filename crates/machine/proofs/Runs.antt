@@ -1,15 +1,14 @@
 -- A run: blocks up to a budget, and the opening questions.
 use mathlib.Core.Path.{◌≡◌, refl, sym, ap, ◌∙◌}
 use mathlib.Core.Logic.{◌⊎◌, inl, inr}
-use mathlib.Core.List.{List, [], ◌∷◌, ◌++◌}
+use mathlib.Core.List.{List}
 use Prim.Native.Nat.{ℕ, suc, ◌+◌, ◌-◌, ◌<◌, ◌≤◌}
 use native.Mathlib.Nat.{zero-add, add-zero, sub-eq-zero_of_le}
 use native.Mathlib.Numerals.{add-one}
 use native.Mathlib.Omega.{arith}
 use lib.ListN.{length, get_or, take, drop, length-take, length-drop}
 use Rattle.std.specs.Prelude.{Result, Ok, Err}
-use Rattle.std.proofs.Common.{get_or-drop, get_or-take}
-use Rattle.std.proofs.lemmas.List.{take_all, take_more}
+use Rattle.std.proofs.Common.{get_or-take, get_or-drop}
 use Rattle.model.specs.Question.{number_of, Outcome, ok, refused}
 use Rattle.model.specs.declared.questions.Question.{Question}
 use Rattle.model.specs.Table.{Routine, routine_of, start_of, head_of, rows, lengths_ask, Code}
@@ -39,20 +38,14 @@ enters x s t (inr (e, n)) = rw (e, n, add-one s.block)
 
 -- ---- the part of a block
 
--- the code from first up to past: what stands before its last word, and that word
-abbrev pub part_to : List ℕ → ℕ → ℕ → List ℕ
-part_to code first past =
-    let part = take (past - first) (drop first code) in take (length part - 1) part ++ get_or code (past - 1) 0 ∷ []
-
-pub part-is : (code : List ℕ) (first past : ℕ) → first < past → past ≤ length code → part_to code first past ≡ take (past - first) (drop first code)
-part-is code first past h k =
-    let part = take (past - first) (drop first code) in
-    let long : length part ≡ past - first = simp (length-take, length-drop) (omega arith) in
+-- its last word stands in the code before the place where it ends
+pub last_word_of : (code : List ℕ) (first past : ℕ) → first < past → past ≤ length code
+    → get_or code (past - 1) 0 ≡ get_or (take (past - first) (drop first code)) (length (take (past - first) (drop first code)) - 1) 0
+last_word_of code first past h k =
+    let long : length (take (past - first) (drop first code)) ≡ past - first = simp (length-take, length-drop) (omega arith) in
     let there : first + (past - first - 1) ≡ past - 1 = omega arith in
-    let word : get_or part (length part - 1) 0 ≡ get_or code (past - 1) 0 =
-    rw long (get_or-take (past - first) (drop first code) (past - first - 1) 0 (omega arith) ∙ get_or-drop first code (past - first - 1) 0)
-    ∙ ap (λ i. get_or code i 0) there in
-    rw (← word, ← take_more part (length part - 1) 0 (omega (arith, long))) (take_all (length part - 1 + 1) part (omega arith))
+    rw long (sym (get_or-take (past - first) (drop first code) (past - first - 1) 0 (omega arith) ∙ get_or-drop first code (past - first - 1) 0
+    ∙ ap (λ i. get_or code i 0) there))
 
 module _ (C : Code) (q : lengths_ask C.blocks (length C.code) ≡ ok tt) where
   pub bounds : (b : ℕ) → b < rows C.blocks

@@ -1,7 +1,7 @@
 // The machine: a block, and a run with its opening questions.
 #![tactic(auto)]
 
-ghost use Rattle.std.specs.Prelude.{◌≡◌, ◌≢◌, [], ◌∷◌, ◌++◌, ℕ, ◌+◌, ◌-◌, ◌/◌, ◌<◌, ◌≤◌, length, get_or, IfErr};
+ghost use Rattle.std.specs.Prelude.{◌≡◌, ◌≢◌, ℕ, ◌+◌, ◌-◌, ◌/◌, ◌<◌, ◌≤◌, length, get_or, IfErr};
 ghost use Rattle.model.specs.Question.{ok};
 ghost use Rattle.model.specs.Table.{Routine, code_of};
 ghost use Rattle.model.specs.Machine.{steps, run, run_ask, returned, ready};
@@ -33,29 +33,27 @@ fn located<T>(answer: Result<T, Question>, at: usize) -> Result<T, Fault>
     }
 }
 
-// A block: the part of the code table with all of it but its last word, and that word.
+// A block, whose code is one part of the code table, and the last word of that part.
 fn run_block(
     rows: &[[u32; 2]; instruction::OPCODES],
-    body: &[u32],
+    part: &[u32],
     last_word: u32,
     registers: &mut [u32; 8],
     memory: &mut [u32],
     b: u32,
     count: u32,
 ) -> Result<Exit, Fault>
-    requires { (rows.now ≡ opcode_rows) × (b < 4294967295) }
-    ensures steps { let part = body.now ++ last_word ∷ [] in (P : Routine) (f n : ℕ) → P.count ≡ count → Covers P b part
-        → exit_of (exit_in result) (at b (offset_of part result) registers.new memory.new f (n + offset_of part result))
+    requires { (rows.now ≡ opcode_rows) × (1 ≤ length part.now) × (b < 4294967295) × (last_word ≡ get_or part.now (length part.now - 1) 0) }
+    ensures steps { (P : Routine) (f n : ℕ) → P.count ≡ count → Covers P b part.now
+        → exit_of (exit_in result) (at b (offset_of part.now result) registers.new memory.new f (n + offset_of part.now result))
         ≡ steps P (P.long b) (at b 0 registers.old memory.old f n) }
-    ensures place { IfErr result (λ e. e.at ≤ length body.now) }
+    ensures place { IfErr result (λ e. e.at < length part.now) }
 {
-    for (i, &w) in body.iter().enumerate() {
+    let last = part.len() - 1;
+    for (i, &w) in part[..last].iter().enumerate() {
         located(step::advance(rows, registers, memory, w), i)?;
     }
-    located(
-        step::leave(rows, registers, last_word, b, count),
-        body.len(),
-    )
+    located(step::leave(rows, registers, last_word, b, count), last)
 }
 
 // ---- a run
@@ -97,10 +95,9 @@ fn run_blocks(
     let mut current = registers;
     for finished in 0..budget {
         let end = starts[b as usize + 1] as usize;
-        let part = &code[first..end];
         let exit = match run_block(
             &rows,
-            &part[..part.len() - 1],
+            &code[first..end],
             code[end - 1],
             &mut current,
             memory,

@@ -1,6 +1,5 @@
 -- The steps that are left come to what the whole block comes to.
 use mathlib.Core.Path.{◌≡◌}
-use mathlib.Core.List.{[], ◌∷◌, ◌++◌}
 use Prim.Native.Nat.{ℕ, ◌+◌, ◌-◌}
 use lib.ListN.{length}
 use Rattle.model.specs.Table.{Routine}
@@ -11,5 +10,6 @@ use Rattle.machine.proofs.run_block.Given as goal
 
 abbrev pub invariant-loop-i : goal.invariant-loop-i
 invariant-loop-i l =
-    let part = l.body ++ l.last_word ∷ [] in (P : Routine) (f n : ℕ) → Covers P l.b part
-    → steps P (P.long l.b) (at l.b 0 l.fn.registers l.fn.memory f n) ≡ steps P (length part - l.i) (at l.b l.i l.registers l.memory f (n + l.i))
+    (P : Routine) (f n : ℕ) → Covers P l.b l.part
+    → steps P (P.long l.b) (at l.b 0 l.fn.registers l.fn.memory f n)
+    ≡ steps P (length l.part - l.i) (at l.b l.i l.registers l.memory f (n + l.i))

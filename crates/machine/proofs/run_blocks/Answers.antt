@@ -2,9 +2,9 @@
 use mathlib.Core.Path.{◌≡◌, sym, ap, ◌∙◌}
 use mathlib.Core.Logic.{inl, inr}
 use mathlib.Core.List.{List}
-use Prim.Native.Nat.{ℕ, ◌+◌, ◌≤◌, ◌<◌}
+use Prim.Native.Nat.{ℕ, ◌+◌, ◌-◌, ◌≤◌, ◌<◌}
 use native.Mathlib.Omega.{arith}
-use lib.ListN.{length, get_or}
+use lib.ListN.{length, get_or, take, drop}
 use Rattle.model.specs.Table.{routine_of, start_of, head_of, rows, code_of}
 use Rattle.model.specs.Machine.{Run, returned, steps}
 use Rattle.model.specs.declared.RunAnswer.{RunAnswer}
@@ -13,7 +13,7 @@ use Rattle.std.specs.Prelude.{Ok}
 use Rattle.step.specs.declared.Exit.TheVariants.{Halted}
 use Rattle.step.specs.Answer.{at, exit_of}
 use Rattle.machine.specs.Run.{Covers, Opened, exit_in, offset_of}
-use Rattle.machine.proofs.Runs.{GoesTo, part_to, part-is, bounds, covers, leads-on, run_on, run-halts, run-faults, run-pauses}
+use Rattle.machine.proofs.Runs.{GoesTo, last_word_of, bounds, covers, leads-on, run_on, run-halts, run-faults, run-pauses}
 use Rattle.machine.proofs.run_blocks.Goals as goal
 use Rattle.machine.proofs.run_blocks.Goals.{After-run_block, in-To, in-Following}
 
@@ -24,21 +24,19 @@ record Placed (blocks code starts : List ℕ) (b first : ℕ) : Type 0 where
   past : get_or starts (b + 1) 0 ≡ start_of blocks b + head_of blocks b
   least : 1 ≤ head_of blocks b
   inside : start_of blocks b + head_of blocks b ≤ length code
-  long : head_of blocks b ≡ length (part_to code first (get_or starts (b + 1) 0))
-  part : Covers (routine_of (code_of blocks code)) b (part_to code first (get_or starts (b + 1) 0))
+  long : head_of blocks b ≡ length (take (get_or starts (b + 1) 0 - first) (drop first code))
+  part : Covers (routine_of (code_of blocks code)) b (take (get_or starts (b + 1) 0 - first) (drop first code))
 
 module _ (blocks code starts : List ℕ) (block : ℕ) (O : Opened blocks code starts block) (b first : ℕ) (h : b < rows blocks) (e : first ≡ start_of blocks b) where
   placed : Placed blocks code starts b first
   placed =
       let tables = code_of blocks code in
       let next = O.filled (b + 1) (omega arith) in
+      let part = covers tables O.lengths _ _ _ h e next in
       let (l, k) = bounds tables O.lengths b h in
-      let more = start-more blocks b in
-      let is = part-is code first (get_or starts (b + 1) 0) (omega (arith, e, next, more)) (omega (arith, next, more)) in
-      let part : Covers (routine_of tables) b (part_to code first (get_or starts (b + 1) 0)) = rw is (covers tables O.lengths _ _ _ h e next) in
       record {
         starts-there = e;
-        past = next ∙ more;
+        past = next ∙ start-more blocks b;
         least = l;
         inside = k;
         long = sym (routine-long tables b) ∙ part.long;
@@ -48,7 +46,7 @@ module _ (blocks code starts : List ℕ) (block : ℕ) (O : Opened blocks code s
 -- ---- after the block: what it came to, and that a block which the exit leads to is one of the table
 
 abbrev part : After-run_block → List ℕ
-part c = part_to c.args.code.now c.loop-finished.first (get_or c.args.starts.now (c.loop-finished.b + 1) 0)
+part c = take (get_or c.args.starts.now (c.loop-finished.b + 1) 0 - c.loop-finished.first) (drop c.loop-finished.first c.args.code.now)
 
 block-ran : (c : After-run_block) →
     let j = offset_of (part c) c.run_block.result in
@@ -68,23 +66,20 @@ exists c t g =
 answered : {a : RunAnswer} {r m : Run} → a ≡ returned r → r ≡ m → (a ≡ returned m) × (r.memory ≡ m.memory)
 answered e w = (e ∙ ap returned w, ap (λ (r : Run). r.memory) w)
 
-pub slice_bounds-part-count : goal.slice_bounds-part-count
-slice_bounds-part-count c = let l = c.loop-finished.invariant in omega (arith, placed _ _ _ _ c.requires _ _ l.1 l.2)
-
-pub slice_bounds-part-start : goal.slice_bounds-part-start
-slice_bounds-part-start c = let l = c.loop-finished.invariant in omega (arith, placed _ _ _ _ c.requires _ _ l.1 l.2)
-
-pub slice_bounds-part-end : goal.slice_bounds-part-end
-slice_bounds-part-end c = let l = c.loop-finished.invariant in omega (arith, placed _ _ _ _ c.requires _ _ l.1 l.2)
-
 pub slice_bounds-run_block-count : goal.slice_bounds-run_block-count
 slice_bounds-run_block-count c = let l = c.loop-finished.invariant in omega (arith, placed _ _ _ _ c.requires _ _ l.1 l.2)
+
+pub slice_bounds-run_block-start : goal.slice_bounds-run_block-start
+slice_bounds-run_block-start c = let l = c.loop-finished.invariant in omega (arith, placed _ _ _ _ c.requires _ _ l.1 l.2)
+
+pub slice_bounds-run_block-end : goal.slice_bounds-run_block-end
+slice_bounds-run_block-end c = let l = c.loop-finished.invariant in omega (arith, placed _ _ _ _ c.requires _ _ l.1 l.2)
 
 pub run_block-requires : goal.run_block-requires
 run_block-requires c =
     let l = c.loop-finished.invariant in
     let p = placed _ _ _ _ c.requires _ _ l.1 l.2 in
-    (c.opcode_rows-rows.ensures, omega (arith, p))
+    (c.opcode_rows-rows.ensures, omega (arith, p), omega arith, last_word_of c.args.code.now _ _ (omega (arith, p)) (omega (arith, p)))
 
 pub bounds-starts-t : goal.bounds-starts-t
 bounds-starts-t c =
